@@ -1,0 +1,1 @@
+// Claims as bytes.

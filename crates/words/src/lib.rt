@@ -1,0 +1,3 @@
+// Words of columns: one bit of a column, and the order of words.
+pub mod bits;
+pub mod order;
