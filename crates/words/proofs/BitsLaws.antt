@@ -10,12 +10,8 @@ use lib.Dec.{eqb, eqb·suc-zero, eqb·zero-suc, eqb·suc-suc}
 use lib.Pow.{pow-pos, pow-lt}
 use Rattle.std.proofs.shelf.Bits.{shr-shr}
 use Rattle.std.proofs.shelf.Ways.{eqb-tells}
+use Rattle.words.specs.Bits.{put-bit}
 use Rattle.words.specs.Words.{bit}
-
--- column a with b for bit x
-abbrev pub put-bit : ℕ → Bool → ℕ → ℕ
-put-bit zero b a = a / 2 * 2 + cond b 1 0
-put-bit (suc x) b a = put-bit x b (a / 2) * 2 + a % 2
 
 pub bit-put : (x : ℕ) (b : Bool) (a y : ℕ) → bit y (put-bit x b a) ≡ cond (eqb y x) b (bit y a)
 bit-put zero true a zero = let e : (a / 2 * 2 + 1) % 2 ≡ 1 = omega arith in rw e

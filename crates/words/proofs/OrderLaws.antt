@@ -1,13 +1,13 @@
 -- The order of words is strict, transitive and total, and is kept when a column is put behind both words.
 use mathlib.Core.Path.{_≡_, refl, sym, _∙_, ap, ap₂, subst}
 use mathlib.Core.Logic.{_⊎_, inl, inr}
-use mathlib.Core.List.{List, [], _∷_, _++_}
-use Prim.Native.Nat.{ℕ, zero, suc, _+_, _≤_, _<_}
-use native.Mathlib.Omega.{arith}
+use mathlib.Core.List.{_∷_, _++_, []}
+use Prim.Native.Nat.{ℕ, zero, suc, _<_}
 use native.Mathlib.Decide.{ℕ-discrete, decLt}
+use native.Mathlib.Omega.{arith}
 use lib.ListN.{length, getD, length-append}
+use Rattle.words.specs.Order.{Less, at-once, later, shorter, Ordered, Leq}
 use Rattle.words.specs.Words.{Word}
-use Rattle.words.specs.Order.{Less, at-once, later, shorter, Ordered}
 
 -- The same order as a type that computes: the lexicographic order, and the shorter first.
 abbrev Lex : Word → Word → Type 0
@@ -109,8 +109,6 @@ pub less-empty : (u : Word) (a : ℕ) → Less [] (u ++ (a ∷ []))
 less-empty u a = shorter (omega (arith, length-append u (a ∷ [])))
 
 -- Not later than.
-abbrev pub Leq : Word → Word → Type 0
-Leq u v = (u ≡ v) ⊎ Less u v
 pub leq-snoc : (u v : Word) (a : ℕ) → Leq u v → Leq (u ++ (a ∷ [])) (v ++ (a ∷ []))
 leq-snoc u v a (inl e) = inl (ap (λ t. t ++ (a ∷ [])) e)
 leq-snoc u v a (inr h) = inr (less-snoc u v a a h)

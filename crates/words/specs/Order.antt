@@ -11,6 +11,10 @@ pub data Less : Word → Word → Type 0 where
   later : {x : ℕ} {u v : Word} → Less u v → length u ≡ length v → Less (x ∷ u) (x ∷ v)
   shorter : {u v : Word} → length u < length v → Less u v
 
+-- not later than
+abbrev pub Leq : Word → Word → Type 0
+Leq u v = (u ≡ v) ⊎ Less u v
+
 -- a strict order in which any two words that differ are comparable
 pub record Ordered : Type 0 where
   pub irreflexive : (u : Word) → Less u u → ⊥
