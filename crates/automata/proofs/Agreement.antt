@@ -22,11 +22,12 @@ some-but? x [] P d = go (d [] tt)
     none : (P [] → ⊥) → (v : Word) → But x [] v → P v → ⊥
     none n [] b p = n p
     none n (a ∷ v) b p = b
+
     go : Dec (P []) → Dec (Some-but x [] P)
     go (yes p) = yes ([], tt, p)
     go (no n) = no (λ h. none n (h .0) (h .1) (h .2))
 some-but? x (a ∷ w) P d = go (some-but? x w (λ v. P (put-bit x false a ∷ v)) (λ v b. d (put-bit x false a ∷ v) (put-agree x false a, b)))
-                             (some-but? x w (λ v. P (put-bit x true a ∷ v)) (λ v b. d (put-bit x true a ∷ v) (put-agree x true a, b)))
+    (some-but? x w (λ v. P (put-bit x true a ∷ v)) (λ v b. d (put-bit x true a ∷ v) (put-agree x true a, b)))
   where
     none : (Some-but x w (λ v. P (put-bit x false a ∷ v)) → ⊥) → (Some-but x w (λ v. P (put-bit x true a ∷ v)) → ⊥) → (v : Word) → But x (a ∷ w) v → P v → ⊥
     none n m [] b p = b
@@ -35,6 +36,7 @@ some-but? x (a ∷ w) P d = go (some-but? x w (λ v. P (put-bit x false a ∷ v)
         at : (y : Bool) → c ≡ put-bit x y a → ⊥
         at true e = m (v, b .1, subst (λ z. P (z ∷ v)) e p)
         at false e = n (v, b .1, subst (λ z. P (z ∷ v)) e p)
+
     go : Dec (Some-but x w (λ v. P (put-bit x false a ∷ v))) → Dec (Some-but x w (λ v. P (put-bit x true a ∷ v))) → Dec (Some-but x (a ∷ w) P)
     go (yes h) e = yes (put-bit x false a ∷ h .0, (put-agree x false a, h .1), h .2)
     go (no n) (yes h) = yes (put-bit x true a ∷ h .0, (put-agree x true a, h .1), h .2)
@@ -51,10 +53,12 @@ but-join x [] [] a b p q = q
 but-join x [] (d ∷ v) a b p q = absurd p
 but-join x (c ∷ u) [] a b p q = absurd p
 but-join x (c ∷ u) (d ∷ v) a b p q = (p .0, but-join x u v a b (p .1) q)
+
 pub but-part : (x : ℕ) (u a t : Word) → But x (u ++ a) t → (v : Word) × (b : Word) × (t ≡ v ++ b) × But x u v × But x a b
 but-part x [] a t p = ([], t, refl, tt, p)
 but-part x (c ∷ u) a [] p = absurd p
 but-part x (c ∷ u) a (d ∷ t) p = let (v, b, e, q, r) = but-part x u a t (p .1) in (d ∷ v, b, ap (λ z. d ∷ z) e, (p .0, q), r)
+
 pub but-refl : (x : ℕ) (w : Word) → But x w w
 but-refl x [] = tt
 but-refl x (a ∷ w) = (λ y n. refl, but-refl x w)

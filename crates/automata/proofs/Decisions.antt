@@ -11,15 +11,18 @@ use Rattle.words.specs.Languages.{nth}
 pub not? : {A : Type 0} → Dec A → Dec (A → ⊥)
 not? (yes a) = no (λ f. f a)
 not? (no n) = yes n
+
 pub and? : {A B : Type 0} → Dec A → Dec B → Dec (A × B)
 and? (yes a) (yes b) = yes (a, b)
 and? (yes a) (no n) = no (λ p. n (p .1))
 and? (no n) d = no (λ p. n (p .0))
+
 pub iff? : {A B : Type 0} → Dec A → Dec B → Dec (A ↔ B)
 iff? (yes a) (yes b) = yes (λ _. b, λ _. a)
 iff? (yes a) (no n) = no (λ p. n (p .0 a))
 iff? (no m) (yes b) = no (λ p. m (p .1 b))
 iff? (no m) (no n) = yes (λ a. absurd (m a), λ b. absurd (n b))
+
 pub stable : {A : Type 0} → Dec A → ((A → ⊥) → ⊥) → A
 stable (yes a) f = a
 stable (no n) f = absurd (f n)
@@ -33,8 +36,10 @@ dec-any P (x ∷ xs) d = go (d 0 x refl) (dec-any P xs (λ i y e. d (suc i) y e)
   where
     miss : (P x → ⊥) → (Any P xs → ⊥) → Any P (x ∷ xs) → ⊥
     miss n r h = elim (h .0) as (λ i. nth (x ∷ xs) i ≡ some (h .1) → ⊥) [
-        zero ↦ λ e. n (subst P (sym (Option·some-injective x (h .1) e)) (h .3))
-      | suc i ↦ λ e. r (i, h .1, e, h .3) ] (h .2)
+      | zero ↦ λ e. n (subst P (sym (Option·some-injective x (h .1) e)) (h .3))
+      | suc i ↦ λ e. r (i, h .1, e, h .3)
+    ] (h .2)
+
     go : Dec (P x) → Dec (Any P xs) → Dec (Any P (x ∷ xs))
     go (yes p) r = yes (0, x, refl, p)
     go (no n) (yes r) = yes (suc (r .0), r .1, r .2, r .3)

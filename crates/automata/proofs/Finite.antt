@@ -17,8 +17,10 @@ use Rattle.automata.proofs.Told.{Bound, bound, regular}
 
 abbrev Fits-from : ℕ → ℕ → C → Type 0
 Fits-from k n c = (m : ℕ) → n ≤ m → Fits k m c
+
 top : (k : ℕ) (E : Word → Word → Type 0) → Parted k E → (n : ℕ) × ((m : ℕ) → n ≤ m → (ws : List Word) × Classes k E ws × (length ws ≤ m))
 top k E r = let (ws, cl) = classes k E r in (length ws, λ m h. (ws, cl, h))
+
 fits : (k : ℕ) (c : C) → Bound k c → (n : ℕ) × Fits-from k n c
 fits k (within x y) t = top k (Apart k (within x y)) (parted-left k (Of (within x y)) (regular k (within x y) t))
 fits k (single x) t = top k (Apart k (single x)) (parted-left k (Of (single x)) (regular k (single x) t))
@@ -34,6 +36,7 @@ fits k (some x c) t =
     let (n₀, f) = fits k c (t .1) in
     let (n₁, g) = top k (Apart k (some x c)) (parted-and k (Same-left k (Of (some x c))) (Same-but k x (Of c)) (parted-left k (Of (some x c)) (regular k (some x c) t)) (parted-but k x (Of c) (t .0) (regular k c (t .1)))) in
     (n₀ + n₁, λ m e. (f m (omega arith), g m (omega arith)))
+
 pub finite : Finite
 finite s k c h =
     let (a, b) = T-both (leb 1 k) _ (h .fine) in

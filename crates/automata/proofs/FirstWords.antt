@@ -25,8 +25,10 @@ module _ (k m : ℕ) (δ : ℕ → ℕ → ℕ) (ws : ℕ → Word) (g : Connect
       let o = leq-trans (ws (δ q a)) (ws q ++ (a ∷ [])) (u ++ (a ∷ [])) (r .least q a (run-below k m δ g 0 u (g .start) hu) (hw .0)) (leq-snoc (ws q) u a l) in
       let z = least-from w (u ++ (a ∷ [])) (columns-++ k u (a ∷ []) hu (hw .0, tt)) (hw .1) (rw e o) in
       simp append-assoc at z
+
   pub least-word : (w : Word) → Columns k w → Leq (ws (run δ 0 w)) w
   least-word w h = least-from w [] tt h (inl (r .empty))
+
   pub first-word : (L : Lang) (f : ℕ → Bool) → Table k L m δ f → (i : ℕ) → i < m → f i ≡ true → ((j : ℕ) → j < i → f j ≡ false) → Columns k (ws i) × L (ws i) × ((u : Word) → Columns k u → Less u (ws i) → L u → ⊥)
   first-word L f t i hi fi earlier = (r .columns i hi, t .says (ws i) (r .columns i hi) .0 (ap f (r .arrives i hi) ∙ fi), at)
     where
@@ -35,12 +37,16 @@ module _ (k m : ℕ) (δ : ℕ → ℕ → ℕ) (ws : ℕ → Word) (g : Connect
         where
           j : ℕ
           j = run δ 0 u
+
           hj : j < m
           hj = run-below k m δ g 0 u (g .start) hu
+
           fj : f j ≡ true
           fj = t .says u hu .1 l
+
           late : (j < i → ⊥) → i < j → ⊥
           late n o = leq-less (ws j) u (least-word u hu) (less-trans u (ws i) (ws j) h (r .sorted i j o hj))
+
           by : Dec (j ≡ i) → ⊥
           by (yes e) = leq-less (ws i) u (subst (λ t. Leq (ws t) u) e (least-word u hu)) h
           by (no n) =

@@ -14,48 +14,59 @@ use Rattle.automata.proofs.Tables.{run-below}
 module _ (k m : ℕ) (δ : ℕ → ℕ → ℕ) (f : ℕ → Bool) (cls rep : ℕ → ℕ) (n : ℕ) (g : Connected k m δ) (j : Joined k m δ f cls rep n) where
   abbrev pub δ′ : ℕ → ℕ → ℕ
   δ′ i a = cls (δ (rep i) a)
+
   abbrev pub f′ : ℕ → Bool
   f′ i = f (rep i)
+
   -- the state of the class of q is alike to q
   rep-alike : (q : ℕ) → q < m → Alike k δ f (rep (cls q)) q
   rep-alike q h = let b = j .cls-below q h in j .alike (rep (cls q)) q (j .rep-below (cls q) b) h (j .cls-rep (cls q) b)
+
   joined-step : (q a : ℕ) → q < m → a < 2 ^ k → δ′ (cls q) a ≡ cls (δ q a)
   joined-step q a h ha = let b = j .cls-below q h in
       j .apart (δ (rep (cls q)) a) (δ q a) (g .closed (rep (cls q)) a (j .rep-below (cls q) b) ha) (g .closed q a h ha) (λ x hx. rep-alike q h (a ∷ x) (ha, hx))
+
   pub joined-run : (q : ℕ) (w : Word) → q < m → Columns k w → run δ′ (cls q) w ≡ cls (run δ q w)
   joined-run q [] h c = refl
   joined-run q (a ∷ w) h c = ap (λ p. run δ′ p w) (joined-step q a h (c .0)) ∙ joined-run (δ q a) w (g .closed q a h (c .0)) (c .1)
+
   pub joined-connected : Connected k n δ′
   joined-connected = record {
-      start = (let b = j .cls-below 0 (g .start) in omega arith);
-      closed = λ i a h ha. j .cls-below (δ (rep i) a) (g .closed (rep i) a (j .rep-below i h) ha);
-      reached = λ i h.
+    start = (let b = j .cls-below 0 (g .start) in omega arith);
+    closed = λ i a h ha. j .cls-below (δ (rep i) a) (g .closed (rep i) a (j .rep-below i h) ha);
+    reached = λ i h.
         (let (w, hw, e) = g .reached (rep i) (j .rep-below i h) in
-         let r = joined-run 0 w (g .start) hw in
-         let s = j .start in
-         let c = j .cls-rep i h in
-         (w, hw, cc)) }
+        let r = joined-run 0 w (g .start) hw in
+        let s = j .start in
+        let c = j .cls-rep i h in
+        (w, hw, cc));
+  }
+
   pub joined-table : (L : Lang) → Table k L m δ f → Table k L n δ′ f′
-  joined-table L t = record { connected = joined-connected; says = λ w h.
-      (let r = joined-run 0 w (g .start) h in
-       let s = j .start in
-       let b = run-below k m δ g 0 w (g .start) h in
-       let a = rep-alike (run δ 0 w) b [] tt in
-       let e : f′ (run δ′ 0 w) ≡ f (run δ 0 w) = cc in
-       let y = t .says w h in
-       (λ p. y .0 (sym e ∙ p), λ l. e ∙ y .1 l)) }
+  joined-table L t = record {
+    connected = joined-connected;
+    says = λ w h.
+        (let r = joined-run 0 w (g .start) h in
+        let s = j .start in
+        let b = run-below k m δ g 0 w (g .start) h in
+        let a = rep-alike (run δ 0 w) b [] tt in
+        let e : f′ (run δ′ 0 w) ≡ f (run δ 0 w) = cc in
+        let y = t .says w h in
+        (λ p. y .0 (sym e ∙ p), λ l. e ∙ y .1 l));
+  }
+
   pub joined-collapsed : Collapsed k n δ′ f′
   joined-collapsed p q hp hq a =
       let bp = j .rep-below p hp in
       let bq = j .rep-below q hq in
       let both : Alike k δ f (rep p) (rep q) = λ x hx.
-        (let rp = joined-run (rep p) x bp hx in
-         let rq = joined-run (rep q) x bq hx in
-         let cp = j .cls-rep p hp in
-         let cq = j .cls-rep q hq in
-         let ap′ = rep-alike (run δ (rep p) x) (run-below k m δ g (rep p) x bp hx) [] tt in
-         let aq′ = rep-alike (run δ (rep q) x) (run-below k m δ g (rep q) x bq hx) [] tt in
-         let al = a x hx in cc) in
+      (let rp = joined-run (rep p) x bp hx in
+      let rq = joined-run (rep q) x bq hx in
+      let cp = j .cls-rep p hp in
+      let cq = j .cls-rep q hq in
+      let ap′ = rep-alike (run δ (rep p) x) (run-below k m δ g (rep p) x bp hx) [] tt in
+      let aq′ = rep-alike (run δ (rep q) x) (run-below k m δ g (rep q) x bq hx) [] tt in
+      let al = a x hx in cc) in
       let e = j .apart (rep p) (rep q) bp bq both in
       let cp = j .cls-rep p hp in
       let cq = j .cls-rep q hq in
@@ -66,9 +77,17 @@ module _ (k m : ℕ) (δ : ℕ → ℕ → ℕ) (f : ℕ → Bool) (cls : ℕ �
   stable-runs : (p q : ℕ) (x : Word) → p < m → q < m → Columns k x → cls p ≡ cls q → f (run δ p x) ≡ f (run δ q x)
   stable-runs p q [] hp hq c e = s .accepts p q hp hq e
   stable-runs p q (a ∷ x) hp hq c e = stable-runs (δ p a) (δ q a) x (g .closed p a hp (c .0)) (g .closed q a hq (c .0)) (c .1) (s .steps p q a hp hq (c .0) e)
+
   pub stable-alike : (p q : ℕ) → p < m → q < m → (cls p ≡ cls q) ↔ Alike k δ f p q
   stable-alike p q hp hq = (λ e x hx. stable-runs p q x hp hq hx e, s .whole p q hp hq)
+
   -- with the classes numbered from that of the start on, and a class named for each, they are joined
   pub stable-joined : (rep : ℕ → ℕ) (n : ℕ) → cls 0 ≡ 0 → ((q : ℕ) → q < m → cls q < n) → ((i : ℕ) → i < n → rep i < m) → ((i : ℕ) → i < n → cls (rep i) ≡ i) → Joined k m δ f cls rep n
-  stable-joined rep n z below rep-below cls-rep = record { start = z; cls-below = below; rep-below = rep-below; cls-rep = cls-rep;
-      alike = λ p q hp hq e. stable-alike p q hp hq .0 e; apart = s .whole }
+  stable-joined rep n z below rep-below cls-rep = record {
+    start = z;
+    cls-below = below;
+    rep-below = rep-below;
+    cls-rep = cls-rep;
+    alike = λ p q hp hq e. stable-alike p q hp hq .0 e;
+    apart = s .whole;
+  }

@@ -12,6 +12,7 @@ use Rattle.automata.proofs.Machines.{meant, shift}
 
 abbrev pub None : Sets → ℕ → Type 0
 None v x = (i : ℕ) → v x i ≡ true → ⊥
+
 abbrev pub Left : Residual → ℕ → ℕ → Sets → Type 0
 Left inside x y v = Holds (within x y) v
 Left one x y v = Holds (single x) v
@@ -26,24 +27,31 @@ Left dead x y v = ⊥
 off : (b : Bool) → (b ≡ true → ⊥) → b ≡ false
 off true n = absurd (n refl)
 off false n = refl
+
 module _ (v : Sets) (x : ℕ) where
   none-head : None v x → v x 0 ≡ false
   none-head n = off (v x 0) (n 0)
+
   none-more : v x 0 ≡ false → None (shift v) x → None v x
   none-more e n zero h = false≢true (sym e ∙ h)
   none-more e n (suc i) h = n i h
+
   only-none : Only v x 0 → None (shift v) x
   only-none o i h = let e = o .1 (suc i) h in omega arith
+
   only-here : v x 0 ≡ true → None (shift v) x → Only v x 0
   only-here e n = (e, λ j h. at j h)
     where
       at : (j : ℕ) → v x j ≡ true → j ≡ 0
       at zero h = refl
       at (suc j) h = absurd (n j h)
+
   only-head : (i : ℕ) → Only v x (suc i) → v x 0 ≡ false
   only-head i o = off (v x 0) (λ h. (let e = o .1 0 h in omega arith))
+
   only-less : (i : ℕ) → Only v x (suc i) → Only (shift v) x i
   only-less i o = (o .0, λ j h. (let e = o .1 (suc j) h in omega arith))
+
   only-more : (i : ℕ) → v x 0 ≡ false → Only (shift v) x i → Only v x (suc i)
   only-more i e o = (o .0, λ j h. at j h)
     where
@@ -54,23 +62,29 @@ module _ (v : Sets) (x : ℕ) where
 module _ (v : Sets) (x y : ℕ) where
   abbrev Next : Residual → Type 0
   Next r = Left (after r (v x 0) (v y 0)) x y (shift v)
+
   to-inside : (p q : Bool) → v x 0 ≡ p → v y 0 ≡ q → Holds (within x y) v → Left (after inside p q) x y (shift v)
   to-inside true true e f h = λ i. h (suc i)
   to-inside true false e f h = absurd (false≢true (sym f ∙ h 0 e))
   to-inside false q e f h = λ i. h (suc i)
+
   to-one : (i : ℕ) → Only v x i → Next one
   to-one zero o = rw (o .0) (only-none v x o)
   to-one (suc i) o = rw (only-head v x i o) (i, only-less v x i o)
+
   to-behind : (i : ℕ) → Only v x i → Only v y (suc i) → Next behind
   to-behind zero o p = rw (o .0, only-head v y 0 p) (only-none v x o, only-less v y 0 p)
   to-behind (suc i) o p = rw (only-head v x i o, only-head v y (suc i) p) (i, only-less v x i o, only-less v y (suc i) p)
+
   to-far : (i j : ℕ) → Only v x i → Only v y j → i < j → Next far
   to-far i zero o p h = let z : ⊥ = omega arith in absurd z
   to-far zero (suc j) o p h = rw (o .0, only-head v y j p) (only-none v x o, (j, only-less v y j p))
   to-far (suc i) (suc j) o p h = rw (only-head v x i o, only-head v y j p) (i, j, only-less v x i o, only-less v y j p, omega arith)
+
   to-alone : None v x → (j : ℕ) → Only v y j → Next alone
   to-alone n zero o = rw (none-head v x n, o .0) (λ i. n (suc i), only-none v y o)
   to-alone n (suc j) o = rw (none-head v x n, only-head v y j o) (λ i. n (suc i), (j, only-less v y j o))
+
   pub to : (r : Residual) → Left r x y v → Next r
   to inside h = to-inside (v x 0) (v y 0) refl refl h
   to one h = to-one (h .0) (h .1)
@@ -81,9 +95,11 @@ module _ (v : Sets) (x y : ℕ) where
   to clear h = rw (none-head v x (h .0), none-head v y (h .1)) (λ i. h .0 (suc i), λ i. h .1 (suc i))
   to gone h = rw (none-head v x h) (λ i. h (suc i))
   to dead h = h
+
   from-inside : (v x 0 ≡ true → v y 0 ≡ true) → Left inside x y (shift v) → Left inside x y v
   from-inside e h zero = e
   from-inside e h (suc i) = h i
+
   back : (r : Residual) (p q : Bool) → v x 0 ≡ p → v y 0 ≡ q → Left (after r p q) x y (shift v) → Left r x y v
   back inside true true e f h = from-inside (λ _. f) h
   back inside true false e f h = absurd h
@@ -110,6 +126,7 @@ module _ (v : Sets) (x y : ℕ) where
   back gone true q e f h = absurd h
   back gone false q e f h = none-more v x e h
   back dead p q e f h = h
+
   pub from : (r : Residual) → Next r → Left r x y v
   from r h = back r (v x 0) (v y 0) refl refl h
 
@@ -134,10 +151,15 @@ number-good here = (omega arith, refl)
 number-good clear = (omega arith, refl)
 number-good gone = (omega arith, refl)
 number-good dead = (omega arith, refl)
+
 pub residuals-leaf : (x y s : ℕ) → s < 9 → Leaf (Left (residual s) x y) (residuals x y s)
-residuals-leaf x y s h = meant (Left (residual s) x y) (λ q. Left (residual q) x y) (residuals x y s) record { begins = h; first = λ v. (λ g. g, λ g. g);
-    stays = λ q b g. number-good (after (residual q) (b x) (b y)) .0; end = λ q g. ends-says (residual q) x y;
-    column = λ q v g. rw (number-good (after (residual q) (v x 0) (v y 0)) .1) (to v x y (residual q), from v x y (residual q)) }
+residuals-leaf x y s h = meant (Left (residual s) x y) (λ q. Left (residual q) x y) (residuals x y s) record {
+  begins = h;
+  first = λ v. (λ g. g, λ g. g);
+  stays = λ q b g. number-good (after (residual q) (b x) (b y)) .0;
+  end = λ q g. ends-says (residual q) x y;
+  column = λ q v g. rw (number-good (after (residual q) (v x 0) (v y 0)) .1) (to v x y (residual q), from v x y (residual q));
+}
 
 -- each kind's machine says its claim
 pub leaf : (a : Kind) → Leaf (Holds (claim a)) (machine a)

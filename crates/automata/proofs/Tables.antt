@@ -18,6 +18,7 @@ use Rattle.automata.proofs.Regular.{Regular}
 pub run-++ : {S : Type 0} (step : S → ℕ → S) (s : S) (u w : Word) → run step s (u ++ w) ≡ run step (run step s u) w
 run-++ step s [] w = refl
 run-++ step s (a ∷ u) w = run-++ step (step s a) u w
+
 pub run-below : (k m : ℕ) (δ : ℕ → ℕ → ℕ) → Connected k m δ → (q : ℕ) (w : Word) → q < m → Columns k w → run δ q w < m
 run-below k m δ g q [] h c = h
 run-below k m δ g q (a ∷ w) h c = run-below k m δ g (δ q a) w (g .closed q a h (c .0)) (c .1)
@@ -29,14 +30,19 @@ module _ (k : ℕ) (E : Word → Word → Type 0) where
       pick′ : (q : ℕ) → Dec (q < m) → Word
       pick′ q (yes h) = t .connected .reached q h .0
       pick′ q (no n) = []
+
       word : ℕ → Word
       word q = pick′ q (decLt q m)
+
       word-good : (q : ℕ) → q < m → Columns k (word q) × (run δ 0 (word q) ≡ q)
       word-good q h = elim (decLt q m) as (λ d. Columns k (pick′ q d) × (run δ 0 (pick′ q d) ≡ q)) [
-          yes g ↦ (t .connected .reached q g .1, t .connected .reached q g .2)
-        | no n ↦ absurd (n h) ]
+        | yes g ↦ (t .connected .reached q g .1, t .connected .reached q g .2)
+        | no n ↦ absurd (n h)
+      ]
+
       ws : List Word
       ws = listed word 0 m
+
       ws-at : (i : ℕ) (u : Word) → nth ws i ≡ some u → (i < m) × (u ≡ word i)
       ws-at i u e =
           let h = nth-below ws i u e in
@@ -45,8 +51,10 @@ module _ (k : ℕ) (E : Word → Word → Type 0) where
           let f = listed-nth word 0 m i g in
           let z : 0 + i ≡ i = omega arith in
           (g, cc)
+
       columns′ : (i : ℕ) (u : Word) → nth ws i ≡ some u → Columns k u
       columns′ i u e = let (h, p) = ws-at i u e in rw p (word-good i h .0)
+
       differ′ : (i j : ℕ) (u v : Word) → nth ws i ≡ some u → nth ws j ≡ some v → E u v → i ≡ j
       differ′ i j u v e f s =
           let (h, p) = ws-at i u e in
@@ -55,6 +63,7 @@ module _ (k : ℕ) (E : Word → Word → Type 0) where
           let b = word-good j g .1 in
           let c = t .apart u v (columns′ i u e) (columns′ j v f) s in
           cc
+
       all′ : (w : Word) → Columns k w → (i : ℕ) × (u : Word) × (nth ws i ≡ some u) × E u w
       all′ w h =
           let q = run δ 0 w in
@@ -69,13 +78,14 @@ module _ (k : ℕ) (E : Word → Word → Type 0) where
   many n join f columns differ t =
       let (ws, cl, l) = t in
       let r = pigeon-below (suc n) (length ws) (λ i h. cl .all (f i h) (columns i h) .0)
-        (λ i h. (let (j, u, e, p) = cl .all (f i h) (columns i h) in nth-below ws j u e))
-        (λ i j h g q.
-          (let (a, u, e, p) = cl .all (f i h) (columns i h) in
-           let (b, v, e′, p′) = cl .all (f j g) (columns j g) in
-           let z : v ≡ u = cc in
-           differ i j h g (join u (f i h) (f j g) (cl .columns a u e) (columns i h) (columns j g) p (subst (λ t. E t (f j g)) z p′)))) in
+      (λ i h. (let (j, u, e, p) = cl .all (f i h) (columns i h) in nth-below ws j u e))
+      (λ i j h g q.
+      (let (a, u, e, p) = cl .all (f i h) (columns i h) in
+      let (b, v, e′, p′) = cl .all (f j g) (columns j g) in
+      let z : v ≡ u = cc in
+      differ i j h g (join u (f i h) (f j g) (cl .columns a u e) (columns i h) (columns j g) p (subst (λ t. E t (f j g)) z p′)))) in
       omega arith
+
   pub exact-many : (m n : ℕ) (δ : ℕ → ℕ → ℕ) → Exact k E m δ → n < m → ((ws : List Word) × Classes k E ws × (length ws ≤ n)) → ⊥
   exact-many m n δ t h = many n
       (λ u v w hu hv hw a b. t .same v w hv hw (sym (t .apart u v hu hv a) ∙ t .apart u w hu hw b))
@@ -84,6 +94,7 @@ module _ (k : ℕ) (E : Word → Word → Type 0) where
     where
       at : (i : ℕ) → i < suc n → (w : Word) × Columns k w × (run δ 0 w ≡ i)
       at i g = t .connected .reached i (omega arith)
+
   pub exact-top : (m n : ℕ) (δ : ℕ → ℕ → ℕ) → Exact k E m δ → m ≤ n → (ws : List Word) × Classes k E ws × (length ws ≤ n)
   exact-top m n δ t h = let (ws, cl, e) = exact-classes m δ t in (ws, cl, omega arith)
 
@@ -91,26 +102,36 @@ pub bool-iff : (a b : Bool) → ((a ≡ true) ↔ (b ≡ true)) → a ≡ b
 bool-iff true b h = sym (h .0 refl)
 bool-iff false true h = h .1 refl
 bool-iff false false h = refl
+
 module _ (k : ℕ) (L : Lang) (m : ℕ) (δ : ℕ → ℕ → ℕ) (f : ℕ → Bool) (t : Table k L m δ f) where
   pub says-at : (u x : Word) → Columns k u → Columns k x → (f (run δ (run δ 0 u) x) ≡ true) ↔ L (u ++ x)
   says-at u x hu hx = let s = t .says (u ++ x) (columns-++ k u x hu hx) in let e = run-++ δ 0 u x in rw e at s
+
   pub alike-left : (u v : Word) → Columns k u → Columns k v → Alike k δ f (run δ 0 u) (run δ 0 v) → Same-left k L u v
   alike-left u v hu hv a x hx =
       let s = says-at u x hu hx in
       let r = says-at v x hv hx in
       let e = a x hx in
       (λ l. r .0 (sym e ∙ s .1 l), λ l. s .0 (e ∙ r .1 l))
+
   pub left-alike : (u v : Word) → Columns k u → Columns k v → Same-left k L u v → Alike k δ f (run δ 0 u) (run δ 0 v)
   left-alike u v hu hv l x hx =
       let s = says-at u x hu hx in
       let r = says-at v x hv hx in
       bool-iff (f (run δ (run δ 0 u) x)) (f (run δ (run δ 0 v) x)) (λ e. r .1 (l x hx .0 (s .0 e)), λ e. s .1 (l x hx .1 (r .0 e)))
+
   pub table-exact : Collapsed k m δ f → Exact k (Same-left k L) m δ
-  table-exact n = record { connected = t .connected;
-      same = λ u v hu hv e. alike-left u v hu hv (λ x hx. ap (λ q. f (run δ q x)) e);
-      apart = λ u v hu hv l. n (run δ 0 u) (run δ 0 v) (run-below k m δ (t .connected) 0 u (t .connected .start) hu) (run-below k m δ (t .connected) 0 v (t .connected .start) hv) (left-alike u v hu hv l) }
+  table-exact n = record {
+    connected = t .connected;
+    same = λ u v hu hv e. alike-left u v hu hv (λ x hx. ap (λ q. f (run δ q x)) e);
+    apart = λ u v hu hv l. n (run δ 0 u) (run δ 0 v) (run-below k m δ (t .connected) 0 u (t .connected .start) hu) (run-below k m δ (t .connected) 0 v (t .connected .start) hv) (left-alike u v hu hv l);
+  }
+
   pub table-regular : Regular k L
-  table-regular = record { N = m; code = λ w. run δ 0 w;
-      coded = record { below = λ w h. run-below k m δ (t .connected) 0 w (t .connected .start) h; on = λ u v a hu hv ha e. simp run-++ (ap (λ q. δ q a) e) };
-      same = λ u v hu hv e l. t .says v hv .0 (ap f (sym e) ∙ t .says u hu .1 l);
-      told = λ w h. (let s = t .says w h in elim (f (run δ 0 w)) as (λ b. ((b ≡ true) ↔ L w) → Dec (L w)) [ true ↦ λ s. yes (s .0 refl) | false ↦ λ s. no (λ l. false≢true (s .1 l)) ] s) }
+  table-regular = record {
+    N = m;
+    code = λ w. run δ 0 w;
+    coded = record { below = λ w h. run-below k m δ (t .connected) 0 w (t .connected .start) h; on = λ u v a hu hv ha e. simp run-++ (ap (λ q. δ q a) e) };
+    same = λ u v hu hv e l. t .says v hv .0 (ap f (sym e) ∙ t .says u hu .1 l);
+    told = λ w h. (let s = t .says w h in elim (f (run δ 0 w)) as (λ b. ((b ≡ true) ↔ L w) → Dec (L w)) [ true ↦ λ s. yes (s .0 refl) | false ↦ λ s. no (λ l. false≢true (s .1 l)) ] s);
+  }

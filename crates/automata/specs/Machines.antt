@@ -12,9 +12,11 @@ pub record Machine : Type 0 where
   pub start : ℕ
   pub step : ℕ → (ℕ → Bool) → ℕ
   pub ends : ℕ → Bool
+
 -- the step by a column's number
 abbrev pub moves : Machine → ℕ → ℕ → ℕ
 moves m q a = m .step q (λ x. bit x a)
+
 -- the machine says L: all that other proofs use of a claim without parts
 pub record Leaf (L : Sets → Type 0) (m : Machine) : Type 0 where
   pub begins : m .start < m .size
@@ -33,6 +35,7 @@ pub data Residual : Type 0 where
   clear : Residual
   gone : Residual
   dead : Residual
+
 -- what is left after a column that has x or not, and y or not
 abbrev pub after : Residual → Bool → Bool → Residual
 after inside true true = inside
@@ -60,6 +63,7 @@ after clear false false = clear
 after gone true q = dead
 after gone false q = gone
 after dead p q = dead
+
 -- whether it holds where nothing follows
 abbrev pub ends : Residual → Bool
 ends inside = true
@@ -71,6 +75,7 @@ ends here = false
 ends clear = true
 ends gone = true
 ends dead = false
+
 -- residuals as numbers below 9
 abbrev pub number : Residual → ℕ
 number inside = 0
@@ -82,6 +87,7 @@ number here = 5
 number clear = 6
 number gone = 7
 number dead = 8
+
 abbrev pub residual : ℕ → Residual
 residual zero = inside
 residual (suc zero) = one
@@ -92,6 +98,7 @@ residual (suc (suc (suc (suc (suc zero))))) = here
 residual (suc (suc (suc (suc (suc (suc zero)))))) = clear
 residual (suc (suc (suc (suc (suc (suc (suc zero))))))) = gone
 residual (suc (suc (suc (suc (suc (suc (suc (suc n)))))))) = dead
+
 -- the machine of residuals of a claim about x and y
 abbrev pub residuals : ℕ → ℕ → ℕ → Machine
 residuals x y s = record { size = 9; start = s; step = λ q b. number (after (residual q) (b x) (b y)); ends = λ q. ends (residual q) }
@@ -102,11 +109,13 @@ pub data Kind : Type 0 where
   single-kind : ℕ → Kind
   next-kind : ℕ → ℕ → Kind
   before-kind : ℕ → ℕ → Kind
+
 abbrev pub claim : Kind → C
 claim (within-kind x y) = within x y
 claim (single-kind x) = single x
 claim (next-kind x y) = next x y
 claim (before-kind x y) = before x y
+
 abbrev pub machine : Kind → Machine
 machine (within-kind x y) = residuals x y 0
 machine (single-kind x) = residuals x x 1

@@ -37,3 +37,14 @@ pub record Ranked (k m : ℕ) (δ : ℕ → ℕ → ℕ) (ws : ℕ → Word) : T
   pub arrives : (j : ℕ) → j < m → run δ 0 (ws j) ≡ j
   pub least : (p b : ℕ) → p < m → b < 2 ^ k → Leq (ws (δ p b)) (ws p ++ (b ∷ []))
   pub sorted : (p q : ℕ) → p < q → q < m → Less (ws p) (ws q)
+
+-- more than n things were found, no two of them the same
+pub record Too-many {S : Type 0} (k : ℕ) (step : S → ℕ → S) (s : S) (n : ℕ) : Type 0 where
+  pub found : ℕ
+  pub at : ℕ → S
+  pub δ : ℕ → ℕ → ℕ
+  pub ws : ℕ → Word
+  pub row : ℕ
+  pub column : ℕ
+  pub exploring : Exploring k step s found at δ ws row column
+  pub many : n < found

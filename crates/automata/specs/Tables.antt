@@ -26,6 +26,7 @@ pub record Table (k : ℕ) (L : Lang) (m : ℕ) (δ : ℕ → ℕ → ℕ) (f : 
 -- two classes that no word tells apart
 abbrev pub Alike : ℕ → (ℕ → ℕ → ℕ) → (ℕ → Bool) → ℕ → ℕ → Type 0
 Alike k δ f p q = (x : Word) → Columns k x → f (run δ p x) ≡ f (run δ q x)
+
 -- no two classes are alike
 abbrev pub Collapsed : ℕ → ℕ → (ℕ → ℕ → ℕ) → (ℕ → Bool) → Type 0
 Collapsed k m δ f = (p q : ℕ) → p < m → q < m → Alike k δ f p q → p ≡ q

@@ -1,0 +1,3 @@
+// Tables of classes in lent memory.
+pub mod cells;
+pub mod complement;
