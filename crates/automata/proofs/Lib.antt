@@ -15,6 +15,7 @@ pub mod Machines
 pub mod Residuals
 pub mod Told
 pub mod Finite
+pub mod Families
 pub mod Joined
 pub mod Exploring
 pub mod FirstWords

@@ -6,3 +6,4 @@ pub mod Product
 pub mod Subsets
 pub mod Joined
 pub mod Worked
+pub mod Families
