@@ -16,12 +16,16 @@ use Rattle.automata.proofs.Decisions.{T-both}
 -- A claim about k sets holds of two families or of neither if they agree in the first k sets.
 abbrev Agree : ℕ → Sets → Sets → Type 0
 Agree k v w = (x i : ℕ) → x < k → v x i ≡ w x i
+
 agree-sym : (k : ℕ) (v w : Sets) → Agree k v w → Agree k w v
 agree-sym k v w h x i l = sym (h x i l)
+
 only-agree : (k : ℕ) (v w : Sets) → Agree k v w → (x i : ℕ) → x < k → Only v x i → Only w x i
 only-agree k v w h x i l o = (sym (h x i l) ∙ o .0, λ j e. o .1 j (h x j l ∙ e))
+
 put-agree-sets : (k : ℕ) (v w : Sets) → Agree k v w → (x : ℕ) (u : List Bool) → Agree k (put v x u) (put w x u)
 put-agree-sets k v w h x u y i l = ap (cond (eqb y x) (has u i)) (h y i l)
+
 pub holds-agree : (k : ℕ) (c : C) → T (ok k c) → (v w : Sets) → Agree k v w → Holds c v → Holds c w
 holds-agree k (within x y) t v w h p =
     let (a, b) = T-both (ltb x k) (ltb y k) t in
@@ -43,16 +47,20 @@ holds-agree k (some x c) t v w h p =
 column-of : (ℕ → Bool) → ℕ → ℕ
 column-of b zero = 0
 column-of b (suc k) = column-of (λ x. b (suc x)) k * 2 + cond (b 0) 1 0
+
 column-below : (b : ℕ → Bool) (k : ℕ) → column-of b k < 2 ^ k
 unfolding column-of
 column-below b zero = omega arith
 column-below b (suc k) = let r = column-below (λ x. b (suc x)) k in elim (b 0) as (λ t. column-of (λ x. b (suc x)) k * 2 + cond t 1 0 < 2 ^ suc k) [ true ↦ omega (arith, pow-suc 2 k) | false ↦ omega (arith, pow-suc 2 k) ]
+
 odd-end : (n : ℕ) (t : Bool) → eqb ((n * 2 + cond t 1 0) % 2) 1 ≡ t
 odd-end n true = let e : (n * 2 + 1) % 2 ≡ 1 = omega arith in rw e
 odd-end n false = let e : (n * 2 + 0) % 2 ≡ 0 = omega arith in rw e
+
 half-end : (n : ℕ) (t : Bool) → (n * 2 + cond t 1 0) / 2 ≡ n
 half-end n true = omega arith
 half-end n false = omega arith
+
 column-bit : (b : ℕ → Bool) (k x : ℕ) → x < k → bit x (column-of b k) ≡ b x
 unfolding column-of
 column-bit b zero x h = let z : ⊥ = omega arith in absurd z
@@ -63,13 +71,16 @@ column-bit b (suc k) (suc x) h = ap (bit x) (half-end (column-of (λ x. b (suc x
 word-of : Sets → ℕ → ℕ → ℕ → Word
 word-of v k i zero = []
 word-of v k i (suc n) = column-of (λ x. v x i) k ∷ word-of v k (suc i) n
+
 word-columns : (v : Sets) (k i n : ℕ) → Columns k (word-of v k i n)
 unfolding word-of
 word-columns v k i zero = tt
 word-columns v k i (suc n) = (column-below (λ x. v x i) k, word-columns v k (suc i) n)
+
 off : (b : Bool) → (b ≡ true → ⊥) → false ≡ b
 off true n = absurd (n refl)
 off false n = refl
+
 word-sets : (v : Sets) (k i n x j : ℕ) → x < k → ((p : ℕ) → v x p ≡ true → p < i + n) → sets (word-of v k i n) x j ≡ v x (i + j)
 unfolding word-of
 word-sets v k i zero x j h e = off (v x (i + j)) (λ t. (let z = e (i + j) t in omega arith))
@@ -81,10 +92,14 @@ bound-of : (k : ℕ) (v : Sets) → Finite-sets k v → (n : ℕ) × ((x i : ℕ
 bound-of zero v f = (0, λ x i h. (let z : ⊥ = omega arith in absurd z))
 bound-of (suc k) v f =
     let (n, a) = bound-of k v (λ x h. f x (omega arith)) in
-    let (m, b) = f k (omega arith) in
-    (n + m, λ x i h t. elim (ℕ-discrete x k) [
-      yes e ↦ (let z = b i (subst (λ y. v y i ≡ true) e t) in omega arith)
-    | no d ↦ (let z = a x i (omega arith) t in omega arith) ])
+    let (m, b) = f k (omega arith) in (
+      n + m,
+      λ x i h t. elim (ℕ-discrete x k) [
+        | yes e ↦ (let z = b i (subst (λ y. v y i ≡ true) e t) in omega arith)
+        | no d ↦ (let z = a x i (omega arith) t in omega arith)
+      ],
+    )
+
 pub families : Families
 families k c t v f =
     let (n, b) = bound-of k v f in

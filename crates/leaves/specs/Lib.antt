@@ -1,0 +1,3 @@
+-- What the code of the kinds without parts says.
+pub mod Kind
+pub mod Explore

@@ -1,0 +1,3 @@
+// Tables of the claims without parts.
+pub mod explore;
+pub mod kind;
