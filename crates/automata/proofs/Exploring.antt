@@ -10,7 +10,7 @@ use Rattle.words.specs.Languages.{Classes}
 use Rattle.words.specs.Order.{Leq, Less}
 use Rattle.words.specs.Words.{Columns, Word}
 use Rattle.words.proofs.OrderLaws.{less-empty, less-last, less-snoc}
-use Rattle.automata.specs.Search.{Before, Explored, Exploring, Ranked}
+use Rattle.automata.specs.Search.{Before, Explored, Exploring, Ranked, Too-many}
 use Rattle.automata.specs.Tables.{run}
 use Rattle.automata.proofs.Reach.{columns-++}
 use Rattle.automata.proofs.Residuals.{from, to}
@@ -178,3 +178,6 @@ module _ {S : Type 0} (k : ℕ) (step : S → ℕ → S) (s : S) where
       (λ p q g g′ e.
       (let hp : p < m = omega arith in let hq : q < m = omega arith in
       x .differ p q hp hq (sym (x .comes p hp) ∙ from (ws p) (ws q) (x .columns p hp) (x .columns q hq) e ∙ x .comes q hq)))
+
+  pub too-many : (n : ℕ) → Too-many k step s n → (E : Word → Word → Type 0) → ((u v : Word) → Columns k u → Columns k v → run step s u ≡ run step s v → E u v) → ((u v : Word) → Columns k u → Columns k v → E u v → run step s u ≡ run step s v) → ((vs : List Word) × Classes k E vs × (length vs ≤ n)) → ⊥
+  too-many n y E to from = exploring-many n (y .found) (y .at) (y .δ) (y .ws) (y .row) (y .column) (y .exploring) (y .many) E to from

@@ -7,9 +7,9 @@ use Prim.Native.Nat.{_<_, _^_, ℕ}
 use native.Mathlib.Omega.{arith}
 use Rattle.words.specs.Languages.{Lang}
 use Rattle.words.specs.Words.{Columns, Word}
-use Rattle.automata.specs.Joined.{Joined, Stable}
+use Rattle.automata.specs.Joined.{Joined, Stable, Written}
 use Rattle.automata.specs.Tables.{Alike, Collapsed, Connected, Table, run}
-use Rattle.automata.proofs.Tables.{run-below}
+use Rattle.automata.proofs.Tables.{run-below, collapsed-same, table-same}
 
 module _ (k m : ℕ) (δ : ℕ → ℕ → ℕ) (f : ℕ → Bool) (cls rep : ℕ → ℕ) (n : ℕ) (g : Connected k m δ) (j : Joined k m δ f cls rep n) where
   abbrev pub δ′ : ℕ → ℕ → ℕ
@@ -91,3 +91,27 @@ module _ (k m : ℕ) (δ : ℕ → ℕ → ℕ) (f : ℕ → Bool) (cls : ℕ �
     alike = λ p q hp hq e. stable-alike p q hp hq .0 e;
     apart = s .whole;
   }
+
+-- The joined table, as it is written: by functions that are cls (δ (rep i) a) and the acceptance of rep i on the joined classes; acceptance g of the classes may differ from f beyond them.
+module _ (k m : ℕ) (δ : ℕ → ℕ → ℕ) (f g : ℕ → Bool) (cls rep : ℕ → ℕ) (n : ℕ) (δ′ : ℕ → ℕ → ℕ) (f′ : ℕ → Bool) (c : Connected k m δ) (j : Joined k m δ g cls rep n) (same : (q : ℕ) → q < m → g q ≡ f q) (w : Written k δ g cls rep n δ′ f′) where
+  joined-same : Joined k m δ f cls rep n
+  joined-same = record {
+    start = j .start;
+    cls-below = j .cls-below;
+    rep-below = j .rep-below;
+    cls-rep = j .cls-rep;
+    alike = λ p q hp hq e x hx. sym (at p x hp hx) ∙ j .alike p q hp hq e x hx ∙ at q x hq hx;
+    apart = λ p q hp hq a. j .apart p q hp hq (λ x hx. at p x hp hx ∙ a x hx ∙ sym (at q x hq hx));
+  }
+    where
+      at : (q : ℕ) (x : Word) → q < m → Columns k x → g (run δ q x) ≡ f (run δ q x)
+      at q x h hx = same (run δ q x) (run-below k m δ c q x h hx)
+
+  ends : (i : ℕ) → i < n → f′ i ≡ f (rep i)
+  ends i h = w .accepts i h ∙ same (rep i) (j .rep-below i h)
+
+  pub written-table : (L : Lang) → Table k L m δ f → Table k L n δ′ f′
+  written-table L t = table-same k L n (λ i a. cls (δ (rep i) a)) δ′ (λ i. f (rep i)) f′ (joined-table k m δ f cls rep n c joined-same L t) (w .steps) ends
+
+  pub written-collapsed : Collapsed k n δ′ f′
+  written-collapsed = collapsed-same k n (λ i a. cls (δ (rep i) a)) δ′ (λ i. f (rep i)) f′ (joined-connected k m δ f cls rep n c joined-same) (joined-collapsed k m δ f cls rep n c joined-same) (w .steps) ends

@@ -4,7 +4,7 @@ use mathlib.Core.Logic.{_↔_}
 use mathlib.Core.Bool.{Bool, false, false≢true, true}
 use mathlib.Core.List.{List, [], _++_, _∷_}
 use mathlib.Core.Option.{some}
-use Prim.Native.Nat.{_+_, _<_, _≤_, suc, ℕ}
+use Prim.Native.Nat.{_+_, _<_, _≤_, suc, ℕ, _^_}
 use native.Mathlib.Decide.{decLt}
 use native.Mathlib.Omega.{arith}
 use lib.ListN.{length}
@@ -135,3 +135,28 @@ module _ (k : ℕ) (L : Lang) (m : ℕ) (δ : ℕ → ℕ → ℕ) (f : ℕ → 
     same = λ u v hu hv e l. t .says v hv .0 (ap f (sym e) ∙ t .says u hu .1 l);
     told = λ w h. (let s = t .says w h in elim (f (run δ 0 w)) as (λ b. ((b ≡ true) ↔ L w) → Dec (L w)) [ true ↦ λ s. yes (s .0 refl) | false ↦ λ s. no (λ l. false≢true (s .1 l)) ] s);
   }
+
+-- A table may be given by other functions that are the same on its classes.
+pub run-same : (k m : ℕ) (δ ε : ℕ → ℕ → ℕ) → Connected k m δ → ((q a : ℕ) → q < m → a < 2 ^ k → ε q a ≡ δ q a) → (q : ℕ) (w : Word) → q < m → Columns k w → run ε q w ≡ run δ q w
+run-same k m δ ε g e q [] h c = refl
+run-same k m δ ε g e q (a ∷ w) h c = ap (λ p. run ε p w) (e q a h (c .0)) ∙ run-same k m δ ε g e (δ q a) w (g .closed q a h (c .0)) (c .1)
+
+pub connected-same : (k m : ℕ) (δ ε : ℕ → ℕ → ℕ) → Connected k m δ → ((q a : ℕ) → q < m → a < 2 ^ k → ε q a ≡ δ q a) → Connected k m ε
+connected-same k m δ ε g e = record {
+  start = g .start;
+  closed = λ q a h c. rw (e q a h c) (g .closed q a h c);
+  reached = λ q h. (let (w, c, r) = g .reached q h in (w, c, run-same k m δ ε g e 0 w (g .start) c ∙ r));
+}
+
+module _ (k : ℕ) (m : ℕ) (δ ε : ℕ → ℕ → ℕ) (f g : ℕ → Bool) (c : Connected k m δ) (e : (q a : ℕ) → q < m → a < 2 ^ k → ε q a ≡ δ q a) (h : (q : ℕ) → q < m → g q ≡ f q) where
+  accepts-same : (q : ℕ) (w : Word) → q < m → Columns k w → g (run ε q w) ≡ f (run δ q w)
+  accepts-same q w hq cw = ap g (run-same k m δ ε c e q w hq cw) ∙ h (run δ q w) (run-below k m δ c q w hq cw)
+
+pub table-same : (k : ℕ) (L : Lang) (m : ℕ) (δ ε : ℕ → ℕ → ℕ) (f g : ℕ → Bool) → Table k L m δ f → ((q a : ℕ) → q < m → a < 2 ^ k → ε q a ≡ δ q a) → ((q : ℕ) → q < m → g q ≡ f q) → Table k L m ε g
+table-same k L m δ ε f g t e h = record {
+  connected = connected-same k m δ ε (t .connected) e;
+  says = λ w cw. (let s = t .says w cw in let o = accepts-same k m δ ε f g (t .connected) e h 0 w (t .connected .start) cw in (λ p. s .0 (sym o ∙ p), λ l. o ∙ s .1 l));
+}
+
+pub collapsed-same : (k m : ℕ) (δ ε : ℕ → ℕ → ℕ) (f g : ℕ → Bool) → Connected k m δ → Collapsed k m δ f → ((q a : ℕ) → q < m → a < 2 ^ k → ε q a ≡ δ q a) → ((q : ℕ) → q < m → g q ≡ f q) → Collapsed k m ε g
+collapsed-same k m δ ε f g c t e h p q hp hq a = t p q hp hq (λ x hx. sym (accepts-same k m δ ε f g c e h p x hp hx) ∙ a x hx ∙ accepts-same k m δ ε f g c e h q x hq hx)

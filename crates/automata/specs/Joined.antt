@@ -17,3 +17,8 @@ pub record Stable (k m : ℕ) (δ : ℕ → ℕ → ℕ) (f : ℕ → Bool) (cls
   pub whole : (p q : ℕ) → p < m → q < m → Alike k δ f p q → cls p ≡ cls q
   pub accepts : (p q : ℕ) → p < m → q < m → cls p ≡ cls q → f p ≡ f q
   pub steps : (p q a : ℕ) → p < m → q < m → a < 2 ^ k → cls p ≡ cls q → cls (δ p a) ≡ cls (δ q a)
+
+-- the joined table, written by other functions: each row is that of a class, with its classes joined
+pub record Written (k : ℕ) (δ : ℕ → ℕ → ℕ) (f : ℕ → Bool) (cls rep : ℕ → ℕ) (n : ℕ) (δ′ : ℕ → ℕ → ℕ) (f′ : ℕ → Bool) : Type 0 where
+  pub steps : (i a : ℕ) → i < n → a < 2 ^ k → δ′ i a ≡ cls (δ (rep i) a)
+  pub accepts : (i : ℕ) → i < n → f′ i ≡ f (rep i)
