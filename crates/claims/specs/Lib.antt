@@ -3,3 +3,4 @@ pub mod Claims
 pub mod Sizes
 pub mod Rows
 pub mod Laws
+pub mod Signs

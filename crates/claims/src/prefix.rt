@@ -1,0 +1,1 @@
+// The claim that bytes begin with.
