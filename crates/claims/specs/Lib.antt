@@ -4,3 +4,4 @@ pub mod Sizes
 pub mod Rows
 pub mod Laws
 pub mod Signs
+pub mod Fronts
