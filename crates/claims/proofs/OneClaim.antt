@@ -16,6 +16,7 @@ Parts (suc (suc (suc (suc zero)))) r c t = (d : C) × (c ≡ not1 d) × (row d +
 Parts (suc (suc (suc (suc (suc zero))))) r c t = (d : C) × (e : C) × (c ≡ and1 d e) × (row d ++ (row e ++ t) ≡ r)
 Parts (suc (suc (suc (suc (suc (suc zero)))))) r c t = (x : ℕ) × (d : C) × (c ≡ some x d) × (x ∷ (row d ++ t) ≡ r)
 Parts (suc (suc (suc (suc (suc (suc (suc b))))))) r c t = ⊥
+
 pub parts : (c : C) (t : List ℕ) (b : ℕ) (r : List ℕ) → row c ++ t ≡ b ∷ r → Parts b r c t
 parts (within x y) t b r h = let e : 0 ≡ b = cc in subst (λ b. Parts b r (within x y) t) e (x, y, refl, cc)
 parts (single x) t b r h = let e : 1 ≡ b = cc in subst (λ b. Parts b r (single x) t) e (x, refl, cc)

@@ -12,6 +12,7 @@ abbrev pub has : List Bool → ℕ → Bool
 has [] i = false
 has (b ∷ bs) zero = b
 has (b ∷ bs) (suc i) = has bs i
+
 -- the family v with the finite set u for set x
 abbrev pub put : Sets → ℕ → List Bool → Sets
 put v x u y i = cond (eqb y x) (has u i) (v y i)
@@ -29,6 +30,7 @@ pub data C : Type 0 where
 -- place i is the one place of set x
 abbrev pub Only : Sets → ℕ → ℕ → Type 0
 Only v x i = (v x i ≡ true) × ((j : ℕ) → v x j ≡ true → j ≡ i)
+
 -- within x y: every place of x is one of y; single x: x has exactly one place; next x y: x and y have one place each, and y's is the one behind x's;
 -- before x y: x and y have one place each, and y's is further on; some x c: there is a finite set that, taken for x, makes c hold
 abbrev pub Holds : C → Sets → Type 0

@@ -10,6 +10,7 @@ use Rattle.claims.specs.Rows.{row, ok}
 pub record Front (k : ℕ) (c : C) (s t : List ℕ) : Type 0 where
   pub rows : row c ++ t ≡ s
   pub fine : T (ok k c)
+
 -- s begins with no claim about k sets
 abbrev pub No-front : ℕ → List ℕ → Type 0
 No-front k s = (c : C) (t : List ℕ) → Front k c s t → ⊥

@@ -5,3 +5,4 @@ pub mod Rows
 pub mod Laws
 pub mod Signs
 pub mod Fronts
+pub mod Cases

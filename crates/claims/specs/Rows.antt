@@ -15,6 +15,7 @@ row (before x y) = 3 ∷ x ∷ y ∷ []
 row (not1 c) = 4 ∷ row c
 row (and1 c d) = 5 ∷ (row c ++ row d)
 row (some x c) = 6 ∷ x ∷ row c
+
 -- every set's number is below k
 abbrev pub ok : ℕ → C → Bool
 ok k (within x y) = ltb x k && ltb y k
@@ -24,9 +25,11 @@ ok k (before x y) = ltb x k && ltb y k
 ok k (not1 c) = ok k c
 ok k (and1 c d) = ok k c && ok k d
 ok k (some x c) = ltb x k && ok k c
+
 -- the bytes s say claim c about k sets, 1 to 12, in at most 1,024 bytes
 pub record Claim (s : List ℕ) (k : ℕ) (c : C) : Type 0 where
   pub rows : k ∷ row c ≡ s
   pub fine : T (leb 1 k && (leb k 12 && (leb (length s) 1024 && ok k c)))
+
 abbrev pub is-claim : List ℕ → Type 0
 is-claim s = (k : ℕ) × (c : C) × Claim s k c

@@ -28,3 +28,16 @@ pub fn skip(bytes: &[u8], k: u8) -> Option<&[u8]>
         Sign::Some(x) => if x.0 < k { skip(rest, k) } else { None },
     }
 }
+
+// Where the part about k sets that begins at byte `at` ends, if one begins there.
+pub fn part_end(bytes: &[u8], at: usize, k: u8) -> Option<usize>
+    ensures { λ r. ⌜ Cases r (No-front k (drop at (now (bytes .entry)))) (λ e. (e ≤ length (now (bytes .entry))) × ((c : C) × Front k c (drop at (now (bytes .entry))) (drop e (now (bytes .entry))))) ⌝ }
+{
+    if at > bytes.len() {
+        return None;
+    }
+    match skip(&bytes[at..], k) {
+        Some(rest) => Some(bytes.len() - rest.len()),
+        None => None,
+    }
+}

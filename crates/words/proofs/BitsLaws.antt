@@ -27,6 +27,7 @@ bit-put (suc x) b a (suc y) = let e : (put-bit x b (a / 2) * 2 + a % 2) / 2 ≡ 
 
 pub bit-put-here : (x : ℕ) (b : Bool) (a : ℕ) → bit x (put-bit x b a) ≡ b
 bit-put-here x b a = elim (eqb-tells x x) [ inl p ↦ bit-put x b a x ∙ ap (λ t. cond t b (bit x a)) (p .0) | inr p ↦ absurd (p .1 refl) ]
+
 pub bit-put-other : (x : ℕ) (b : Bool) (a y : ℕ) → (y ≡ x → ⊥) → bit y (put-bit x b a) ≡ bit y a
 bit-put-other x b a y n = elim (eqb-tells y x) [ inl p ↦ absurd (n (p .1)) | inr p ↦ bit-put x b a y ∙ ap (λ t. cond t b (bit y a)) (p .0) ]
 
@@ -39,27 +40,33 @@ put-bit-below (suc k) (suc x) b a h g = let r = put-bit-below k x b (a / 2) (ome
 -- numbers with the same bits are equal
 same-odd : (a b : ℕ) → eqb (a % 2) 1 ≡ eqb (b % 2) 1 → a % 2 ≡ b % 2
 same-odd a b e = elim (eqb-tells (a % 2) 1) [
-    inl p ↦ elim (eqb-tells (b % 2) 1) [ inl q ↦ omega arith | inr q ↦ let z : true ≡ false = cc in let z : _≡_ {A = ℕ} 0 1 = cc in omega arith ]
-  | inr p ↦ elim (eqb-tells (b % 2) 1) [ inl q ↦ let z : true ≡ false = cc in let z : _≡_ {A = ℕ} 0 1 = cc in omega arith | inr q ↦ omega arith ] ]
+  | inl p ↦ elim (eqb-tells (b % 2) 1) [ inl q ↦ omega arith | inr q ↦ let z : true ≡ false = cc in let z : _≡_ {A = ℕ} 0 1 = cc in omega arith ]
+  | inr p ↦ elim (eqb-tells (b % 2) 1) [ inl q ↦ let z : true ≡ false = cc in let z : _≡_ {A = ℕ} 0 1 = cc in omega arith | inr q ↦ omega arith ]
+]
+
 bits-determine : (n a b : ℕ) → a ≤ n → b ≤ n → ((y : ℕ) → bit y a ≡ bit y b) → a ≡ b
 bits-determine zero a b h g e = omega arith
 bits-determine (suc n) a b h g e =
     let r = bits-determine n (a / 2) (b / 2) (omega arith) (omega arith) (λ y. e (suc y)) in
     omega (arith, same-odd a b (e 0))
+
 pub bit-ext : (a b : ℕ) → ((y : ℕ) → bit y a ≡ bit y b) → a ≡ b
 bit-ext a b e = bits-determine (a + b) a b (omega arith) (omega arith) e
 
 -- a column that agrees with a in all bits but x is a with that bit put
 pub agree-put : (x a b : ℕ) → ((y : ℕ) → (y ≡ x → ⊥) → bit y a ≡ bit y b) → b ≡ put-bit x (bit x b) a
 agree-put x a b h = bit-ext b (put-bit x (bit x b) a) (λ y. elim (eqb-tells y x) [
-    inl p ↦ ap (λ z. bit z b) (p .1) ∙ sym (ap (λ z. bit z (put-bit x (bit x b) a)) (p .1) ∙ bit-put-here x (bit x b) a)
-  | inr p ↦ sym (h y (p .1)) ∙ sym (bit-put-other x (bit x b) a y (p .1)) ])
+  | inl p ↦ ap (λ z. bit z b) (p .1) ∙ sym (ap (λ z. bit z (put-bit x (bit x b) a)) (p .1) ∙ bit-put-here x (bit x b) a)
+  | inr p ↦ sym (h y (p .1)) ∙ sym (bit-put-other x (bit x b) a y (p .1))
+])
 
 -- the operators on words: or, and not, shift
 half-pow : (x : ℕ) → 2 ^ suc x / 2 ≡ 2 ^ x
 half-pow x = omega (arith, pow-suc 2 x)
+
 even-pow : (x : ℕ) → 2 ^ suc x % 2 ≡ 0
 even-pow x = omega (arith, pow-suc 2 x)
+
 pub put-or : (x a : ℕ) → put-bit x true a ≡ bitOr a (2 ^ x)
 put-or zero a = let e = or-step a 1 in let z = or-zero-r (a / 2) in rw e (omega arith)
 put-or (suc x) a =
@@ -69,6 +76,7 @@ put-or (suc x) a =
     let g = even-pow x in
     let e′ : bitOr a (2 ^ suc x) ≡ bitOr (a / 2) (2 ^ x) * 2 + max (a % 2) 0 = rw (h, g) at e in
     omega arith
+
 -- of words of w bits
 pub put-and : (w x a : ℕ) → x < w → a < 2 ^ w → put-bit x false a ≡ bitAnd a (2 ^ w - 1 - 2 ^ x)
 put-and zero x a h g = let z : ⊥ = omega arith in absurd z
@@ -96,6 +104,7 @@ put-and (suc w) (suc x) a h g =
     let e′ : bitAnd a M ≡ bitAnd (a / 2) (2 ^ w - 1 - 2 ^ x) * 2 + min (a % 2) 1 = rw (m₁, m₂) at e in
     let i = put-and w x (a / 2) (omega arith) (omega arith) in
     omega arith
+
 pub bit-shift : (x a : ℕ) → bit x a ≡ eqb (a / 2 ^ x % 2) 1
 bit-shift zero a = let e : a / 1 ≡ a = omega arith in rw e
 bit-shift (suc x) a =
