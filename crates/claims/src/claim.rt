@@ -7,19 +7,24 @@ ghost use Rattle.claims.specs.Laws.{One-claim};
 ghost use Rattle.claims.specs.Rows.{Claim, is-claim};
 use crate::prefix::skip;
 
+// What bytes may be a claim at most: so many sets, and so many bytes with the number of sets among them.
+const MOST_SETS: u8 = 12;
+
+const MOST_BYTES: usize = 1024;
+
 // The number of sets that the claim is about, if the bytes are a claim.
 // A claim of 1,024 bytes can nest a thousand deep, and reading it goes as deep: longer bytes are refused before they are read.
 pub fn claim_sets(bytes: &[u8]) -> Option<u8>
     ensures said { λ r. ⌜ Cases r (is-claim (now (bytes .entry)) → ⊥) (λ k. (c : C) × Claim (now (bytes .entry)) k c) ⌝ }
     ensures one { λ _. ⌜ One-claim ⌝ }
 {
-    if bytes.len() > 1024 {
+    if bytes.len() > MOST_BYTES {
         return None;
     }
     let [k, claim @ ..] = bytes else {
         return None;
     };
-    if *k < 1 || *k > 12 {
+    if *k < 1 || *k > MOST_SETS {
         return None;
     }
     let rest = skip(claim, *k)?;

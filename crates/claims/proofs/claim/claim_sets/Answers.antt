@@ -11,7 +11,7 @@ use Rattle.claims.proofs.OneClaim.{one-front, one-claim}
 use Rattle.claims.proofs.SignLaws.{back1}
 use Rattle.claims.proofs.ClaimLaws.{claim-bounds, front-claim}
 use Rattle.claims.proofs.claim.claim_sets.Needs as need
-use Rattle.claims.proofs.claim.claim_sets.Needs.{then-k-lt1·by·then-k-lt1, then-k-lt1·by·else-k-lt1·then-k-gt12}
+use Rattle.claims.proofs.claim.claim_sets.Needs.{then-k-lt1·by·then-k-lt1, then-k-lt1·by·else-k-lt1·then-k-gt-MOST-SETS}
 
 -- a claim's first byte is its number of sets
 first-is : (s : List ℕ) (k : ℕ) (c : C) → Claim s k c → (getD s 0 0 ≡ k) × (0 < length s)
@@ -27,8 +27,8 @@ empty : (t : List ℕ) → length t ≡ 0 → t ≡ []
 empty [] h = refl
 empty (x ∷ t) h = let z : ⊥ = omega arith in absurd z
 
-pub returns-then-bytes-gt1024 : need.returns-then-bytes-gt1024
-returns-then-bytes-gt1024 c = record { said = λ p. omega (arith, claim-bounds _ _ _ (p .2) .size); one = one-claim }
+pub returns-then-bytes-gt-MOST-BYTES : need.returns-then-bytes-gt-MOST-BYTES
+returns-then-bytes-gt-MOST-BYTES c = record { said = λ p. omega (arith, claim-bounds _ _ _ (p .2) .size); one = one-claim }
 
 pub returns-in-rest : need.returns-in-rest
 returns-in-rest c =
@@ -42,7 +42,7 @@ returns-then-k-lt1 c = record {
       let b = claim-bounds _ _ _ (p .2) in
       elim (c .then-k-lt1 .came) [
         | then-k-lt1·by·then-k-lt1 w ↦ omega (arith, w .if-k-lt1 .taken)
-        | then-k-lt1·by·else-k-lt1·then-k-gt12 w ↦ omega (arith, w .if-k-gt12 .taken)
+        | then-k-lt1·by·else-k-lt1·then-k-gt-MOST-SETS w ↦ omega (arith, w .if-k-gt-MOST-SETS .taken)
       ];
   one = one-claim;
 }
