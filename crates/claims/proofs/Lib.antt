@@ -1,1 +1,4 @@
-pub mod Cases
+pub mod OneClaim
+pub mod SignLaws
+pub mod FrontLaws
+pub mod ClaimLaws

@@ -3,3 +3,6 @@ pub mod Claims
 pub mod Sizes
 pub mod Rows
 pub mod Laws
+pub mod Signs
+pub mod Fronts
+pub mod Cases

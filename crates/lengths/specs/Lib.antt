@@ -1,0 +1,2 @@
+-- What the call asks for.
+pub mod Room

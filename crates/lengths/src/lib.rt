@@ -1,0 +1,2 @@
+// The call: whether a claim holds of rows of every length, of none, or of which first.
+pub mod room;
