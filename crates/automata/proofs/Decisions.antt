@@ -1,11 +1,12 @@
 -- What can be decided, and decisions over the entries of a list.
-use mathlib.Core.Path.{_≡_, refl, subst, sym}
-use mathlib.Core.Logic.{_↔_}
-use mathlib.Core.Bool.{Bool, _&&_, false, true}
+use mathlib.Core.Path.{_≡_, refl, subst, sym, _∙_}
+use mathlib.Core.Logic.{_↔_, _⊎_, inl, inr}
+use mathlib.Core.Bool.{Bool, _&&_, false, true, _||_, false≢true, not}
 use mathlib.Core.List.{List, [], _∷_}
 use mathlib.Core.Option.{Option·none-ne-some, Option·some-injective, some}
 use Prim.Native.Nat.{suc, zero, ℕ}
-use lib.Dec.{T}
+use lib.Dec.{eqb}
+use Rattle.std.proofs.shelf.Ways.{eqb-tells}
 use Rattle.words.specs.Languages.{nth}
 
 pub not? : {A : Type 0} → Dec A → Dec (A → ⊥)
@@ -45,7 +46,29 @@ dec-any P (x ∷ xs) d = go (d 0 x refl) (dec-any P xs (λ i y e. d (suc i) y e)
     go (no n) (yes r) = yes (suc (r .0), r .1, r .2, r .3)
     go (no n) (no r) = no (miss n r)
 
--- both parts of a test that passed
-pub T-both : (a b : Bool) → T (a && b) → T a × T b
-T-both true b t = (tt, t)
-T-both false b t = absurd t
+-- What a test says that is put together from others.
+pub bool-iff : (a b : Bool) → ((a ≡ true) ↔ (b ≡ true)) → a ≡ b
+bool-iff true b h = sym (h .0 refl)
+bool-iff false true h = h .1 refl
+bool-iff false false h = refl
+
+pub not-true : (b : Bool) → (not b ≡ true) ↔ (b ≡ true → ⊥)
+not-true true = (λ h. absurd (false≢true h), λ h. absurd (h refl))
+not-true false = (λ h g. false≢true g, λ h. refl)
+
+pub not-same : (a b : Bool) → not a ≡ not b → a ≡ b
+not-same true true h = refl
+not-same true false h = absurd (false≢true h)
+not-same false true h = sym h
+not-same false false h = refl
+
+pub or-true : (a b : Bool) → ((a || b) ≡ true) ↔ ((a ≡ true) ⊎ (b ≡ true))
+or-true true b = (λ h. inl refl, λ h. refl)
+or-true false b = (λ h. inr h, λ h. elim h [ inl e ↦ absurd (false≢true e) | inr e ↦ e ])
+
+pub and-true : (a b : Bool) → ((a && b) ≡ true) ↔ ((a ≡ true) × (b ≡ true))
+and-true true b = (λ h. (refl, h), λ h. h .1)
+and-true false b = (λ h. absurd (false≢true h), λ h. h .0)
+
+pub eqb-true : (p q : ℕ) → (eqb p q ≡ true) ↔ (p ≡ q)
+eqb-true p q = elim (eqb-tells p q) [ inl r ↦ (λ _. r .1, λ _. r .0) | inr r ↦ (λ e. absurd (false≢true (sym (r .0) ∙ e)), λ e. absurd (r .1 e)) ]

@@ -10,8 +10,8 @@ use lib.Dec.{T, eqb, ltb, ltb→lt}
 use Rattle.words.specs.Words.{Columns, Sets, Word, bit, sets}
 use Rattle.claims.specs.Claims.{C, Holds, Only, and1, before, has, next, not1, put, single, some, within}
 use Rattle.claims.specs.Rows.{ok}
+use Rattle.claims.proofs.FrontLaws.{both-passed}
 use Rattle.automata.specs.Families.{Families, Finite-sets}
-use Rattle.automata.proofs.Decisions.{T-both}
 
 -- A claim about k sets holds of two families or of neither if they agree in the first k sets.
 abbrev Agree : ℕ → Sets → Sets → Type 0
@@ -28,19 +28,19 @@ put-agree-sets k v w h x u y i l = ap (cond (eqb y x) (has u i)) (h y i l)
 
 pub holds-agree : (k : ℕ) (c : C) → T (ok k c) → (v w : Sets) → Agree k v w → Holds c v → Holds c w
 holds-agree k (within x y) t v w h p =
-    let (a, b) = T-both (ltb x k) (ltb y k) t in
+    let (a, b) = both-passed (ltb x k) (ltb y k) t in
     λ i e. sym (h y i (ltb→lt y k b)) ∙ p i (h x i (ltb→lt x k a) ∙ e)
 holds-agree k (single x) t v w h p = (p .0, only-agree k v w h x (p .0) (ltb→lt x k t) (p .1))
 holds-agree k (next x y) t v w h p =
-    let (a, b) = T-both (ltb x k) (ltb y k) t in
+    let (a, b) = both-passed (ltb x k) (ltb y k) t in
     (p .0, only-agree k v w h x (p .0) (ltb→lt x k a) (p .1), only-agree k v w h y (suc (p .0)) (ltb→lt y k b) (p .2))
 holds-agree k (before x y) t v w h p =
-    let (a, b) = T-both (ltb x k) (ltb y k) t in
+    let (a, b) = both-passed (ltb x k) (ltb y k) t in
     (p .0, p .1, only-agree k v w h x (p .0) (ltb→lt x k a) (p .2), only-agree k v w h y (p .1) (ltb→lt y k b) (p .3), p .4)
 holds-agree k (not1 c) t v w h p = λ q. p (holds-agree k c t w v (agree-sym k v w h) q)
-holds-agree k (and1 c d) t v w h p = let (a, b) = T-both (ok k c) (ok k d) t in (holds-agree k c a v w h (p .0), holds-agree k d b v w h (p .1))
+holds-agree k (and1 c d) t v w h p = let (a, b) = both-passed (ok k c) (ok k d) t in (holds-agree k c a v w h (p .0), holds-agree k d b v w h (p .1))
 holds-agree k (some x c) t v w h p =
-    let (a, b) = T-both (ltb x k) (ok k c) t in
+    let (a, b) = both-passed (ltb x k) (ok k c) t in
     (p .0, holds-agree k c b (put v x (p .0)) (put w x (p .0)) (put-agree-sets k v w h x (p .0)) (p .1))
 
 -- The column of which sets have a place.

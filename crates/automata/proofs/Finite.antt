@@ -9,7 +9,7 @@ use Rattle.words.specs.Words.{Word}
 use Rattle.claims.specs.Claims.{C, Of, and1, before, next, not1, single, some, within}
 use Rattle.claims.specs.Laws.{Finite}
 use Rattle.claims.specs.Sizes.{Apart, Fits, Same-but}
-use Rattle.automata.proofs.Decisions.{T-both}
+use Rattle.claims.proofs.FrontLaws.{both-passed}
 use Rattle.automata.proofs.Partitions.{Parted, classes}
 use Rattle.automata.proofs.Regular.{parted-and, parted-left}
 use Rattle.automata.proofs.SameBut.{parted-but}
@@ -39,8 +39,8 @@ fits k (some x c) t =
 
 pub finite : Finite
 finite s k c h =
-    let (a, b) = T-both (leb 1 k) _ (h .fine) in
-    let (d, e) = T-both (leb k 12) _ b in
-    let (f, g) = T-both (leb (length s) 1024) _ e in
+    let (a, b) = both-passed (leb 1 k) _ (h .fine) in
+    let (d, e) = both-passed (leb k 12) _ b in
+    let (f, g) = both-passed (leb (length s) 1024) _ e in
     let (n, p) = fits k c (bound k c g) in
     (n, p n (omega arith))

@@ -12,9 +12,9 @@ use Rattle.automata.specs.Machines.{ends}
 use Rattle.automata.specs.Subsets.{Completes, Live}
 use Rattle.automata.specs.Tables.{Collapsed, Connected, run}
 use Rattle.automata.proofs.Agreement.{put-agree}
-use Rattle.automata.proofs.Decisions.{stable}
+use Rattle.automata.proofs.Decisions.{stable, bool-iff}
 use Rattle.automata.proofs.Reach.{some?}
-use Rattle.automata.proofs.Tables.{bool-iff, run-++, run-below}
+use Rattle.automata.proofs.Tables.{run-++, run-below}
 
 -- a state is dead in a collapsed table if nothing holds there and all columns stay there
 pub dead-stays : (k : ℕ) (δ : ℕ → ℕ → ℕ) (f : ℕ → Bool) (q : ℕ) → f q ≡ false → ((a : ℕ) → a < 2 ^ k → δ q a ≡ q) → Live k δ f q → ⊥

@@ -1,7 +1,6 @@
 -- The product: words lead to the same pair exactly if they leave the same of both languages.
 use mathlib.Core.Path.{_≡_, refl}
-use mathlib.Core.Logic.{_↔_}
-use mathlib.Core.Bool.{Bool, _&&_, false, false≢true, true}
+use mathlib.Core.Bool.{Bool, _&&_}
 use mathlib.Core.List.{[], _∷_}
 use Prim.Native.Nat.{ℕ}
 use Rattle.words.specs.Languages.{Lang, Same-left}
@@ -9,6 +8,7 @@ use Rattle.words.specs.Words.{Columns, Word}
 use Rattle.automata.specs.Product.{Pair, left, pair, right, step-pair}
 use Rattle.automata.specs.Search.{Explored}
 use Rattle.automata.specs.Tables.{Exact, Table, run}
+use Rattle.automata.proofs.Decisions.{and-true}
 use Rattle.automata.proofs.Explored.{explored-exact, explored-table}
 
 run-pair : (δ ε : ℕ → ℕ → ℕ) (p q : ℕ) (w : Word) → run (step-pair δ ε) (pair p q) w ≡ pair (run δ p w) (run ε q w)
@@ -29,14 +29,10 @@ module _ (k : ℕ) (L M : Lang) (m n : ℕ) (δ ε : ℕ → ℕ → ℕ) (t : E
   pub product-exact : (o : ℕ) (at : ℕ → Pair) (γ : ℕ → ℕ → ℕ) → Explored k (step-pair δ ε) (pair 0 0) o at γ → Exact k (λ u v. Same-left k L u v × Same-left k M u v) o γ
   product-exact o at γ x = explored-exact k (step-pair δ ε) (pair 0 0) o at γ x (λ u v. Same-left k L u v × Same-left k M u v) product-to product-from
 
-both-true : (a b : Bool) → ((a && b) ≡ true) ↔ ((a ≡ true) × (b ≡ true))
-both-true true b = (λ h. (refl, h), λ h. h .1)
-both-true false b = (λ h. absurd (false≢true h), λ h. h .0)
-
 pub product-table : (k : ℕ) (L M : Lang) (m n : ℕ) (δ ε : ℕ → ℕ → ℕ) (f g : ℕ → Bool) → Table k L m δ f → Table k M n ε g → (o : ℕ) (at : ℕ → Pair) (γ : ℕ → ℕ → ℕ) → Explored k (step-pair δ ε) (pair 0 0) o at γ → Table k (λ w. L w × M w) o γ (λ i. f (left (at i)) && g (right (at i)))
 product-table k L M m n δ ε f g t s o at γ x = explored-table k (step-pair δ ε) (pair 0 0) o at γ x (λ w. L w × M w) (λ p. f (left p) && g (right p))
     (λ w h. (let e = run-pair δ ε 0 0 w in
-    let b = both-true (f (run δ 0 w)) (g (run ε 0 w)) in
+    let b = and-true (f (run δ 0 w)) (g (run ε 0 w)) in
     let l = t .says w h in
     let r = s .says w h in
     rw e (λ p. (l .0 (b .0 p .0), r .0 (b .0 p .1)), λ p. b .1 (l .1 (p .0), r .1 (p .1)))))

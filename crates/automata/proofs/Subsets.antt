@@ -1,13 +1,12 @@
 -- The subset construction: which classes are in the set that a word leads to, what it tells apart, and when it accepts.
 use mathlib.Core.Path.{_∙_, _≡_, ap, fun-ext, refl, subst, sym}
-use mathlib.Core.Logic.{_↔_, _⊎_, inl, inr}
+use mathlib.Core.Logic.{_↔_, inl, inr}
 use mathlib.Core.Bool.{Bool, _&&_, _||_, false, false≢true, true}
 use mathlib.Core.List.{[], _++_, _∷_, append-assoc}
 use Prim.Native.Nat.{_<_, suc, zero, ℕ}
 use native.Mathlib.Decide.{decLt, ℕ-discrete}
 use native.Mathlib.Omega.{arith}
 use lib.Dec.{eqb}
-use Rattle.std.proofs.shelf.Ways.{eqb-tells}
 use Rattle.words.specs.Bits.{put-bit}
 use Rattle.words.specs.Languages.{Lang, Same-left}
 use Rattle.words.specs.Words.{Columns, Word, bit}
@@ -17,25 +16,15 @@ use Rattle.automata.specs.Subsets.{Completes, Live, accepts-set, any, start-se
 use Rattle.automata.specs.Tables.{Collapsed, Connected, Exact, Table, run}
 use Rattle.automata.proofs.Agreement.{but-columns, but-join, but-part, put-agree}
 use Rattle.automata.proofs.Beyond.{Beyond}
+use Rattle.automata.proofs.Decisions.{and-true, bool-iff, eqb-true, or-true}
 use Rattle.automata.proofs.Projection.{zeros-columns}
 use Rattle.automata.proofs.Reach.{columns-++}
-use Rattle.automata.proofs.Tables.{alike-left, bool-iff, run-++, run-below, says-at, table-exact}
+use Rattle.automata.proofs.Tables.{alike-left, run-++, run-below, says-at, table-exact}
 
 live-back : (k : ℕ) (δ : ℕ → ℕ → ℕ) (f : ℕ → Bool) (p : ℕ) (v : Word) → Columns k v → Live k δ f (run δ p v) → Live k δ f p
 live-back k δ f p v h l = (v ++ l .0, columns-++ k v (l .0) h (l .1), rw run-++ (l .2))
 
--- the step of a set, by its classes
-or-true : (a b : Bool) → ((a || b) ≡ true) ↔ ((a ≡ true) ⊎ (b ≡ true))
-or-true true b = (λ h. inl refl, λ h. refl)
-or-true false b = (λ h. inr h, λ h. elim h [ inl e ↦ absurd (false≢true e) | inr e ↦ e ])
-
-pub and-true : (a b : Bool) → ((a && b) ≡ true) ↔ ((a ≡ true) × (b ≡ true))
-and-true true b = (λ h. (refl, h), λ h. h .1)
-and-true false b = (λ h. absurd (false≢true h), λ h. h .0)
-
-pub eqb-true : (p q : ℕ) → (eqb p q ≡ true) ↔ (p ≡ q)
-eqb-true p q = elim (eqb-tells p q) [ inl r ↦ (λ _. r .1, λ _. r .0) | inr r ↦ (λ e. absurd (false≢true (sym (r .0) ∙ e)), λ e. absurd (r .1 e)) ]
-
+-- Whether some number below n passes.
 pub any-to : (t : ℕ → Bool) (n : ℕ) → any t n ≡ true → (p : ℕ) × (p < n) × (t p ≡ true)
 any-to t zero h = absurd (false≢true h)
 any-to t (suc n) h = elim (or-true (t n) (any t n) .0 h) [ inl e ↦ (n, omega arith, e) | inr e ↦ let (p, g, o) = any-to t n e in (p, omega arith, o) ]

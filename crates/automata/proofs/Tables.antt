@@ -11,6 +11,7 @@ use lib.ListN.{length}
 use Rattle.words.specs.Languages.{Classes, Lang, Same-left, nth}
 use Rattle.words.specs.Words.{Columns, Word}
 use Rattle.automata.specs.Tables.{Alike, Collapsed, Connected, Exact, Table, run}
+use Rattle.automata.proofs.Decisions.{bool-iff}
 use Rattle.automata.proofs.Counting.{listed, listed-length, listed-nth, nth-below, pigeon-below}
 use Rattle.automata.proofs.Reach.{columns-++}
 use Rattle.automata.proofs.Regular.{Regular}
@@ -97,11 +98,6 @@ module _ (k : ℕ) (E : Word → Word → Type 0) where
 
   pub exact-top : (m n : ℕ) (δ : ℕ → ℕ → ℕ) → Exact k E m δ → m ≤ n → (ws : List Word) × Classes k E ws × (length ws ≤ n)
   exact-top m n δ t h = let (ws, cl, e) = exact-classes m δ t in (ws, cl, omega arith)
-
-pub bool-iff : (a b : Bool) → ((a ≡ true) ↔ (b ≡ true)) → a ≡ b
-bool-iff true b h = sym (h .0 refl)
-bool-iff false true h = h .1 refl
-bool-iff false false h = refl
 
 module _ (k : ℕ) (L : Lang) (m : ℕ) (δ : ℕ → ℕ → ℕ) (f : ℕ → Bool) (t : Table k L m δ f) where
   pub says-at : (u x : Word) → Columns k u → Columns k x → (f (run δ (run δ 0 u) x) ≡ true) ↔ L (u ++ x)

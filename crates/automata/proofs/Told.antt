@@ -9,10 +9,10 @@ use Rattle.words.specs.Words.{Columns, Word}
 use Rattle.claims.specs.Claims.{C, Holds, Of, and1, before, next, not1, single, some, within}
 use Rattle.claims.specs.Laws.{Told}
 use Rattle.claims.specs.Rows.{ok}
+use Rattle.claims.proofs.FrontLaws.{both-passed}
 use Rattle.automata.specs.Machines.{Kind, before-kind, claim, machine, next-kind, single-kind, within-kind}
 use Rattle.automata.proofs.Agreement.{Some-but}
 use Rattle.automata.proofs.Beyond.{Beyond, some-beyond}
-use Rattle.automata.proofs.Decisions.{T-both}
 use Rattle.automata.proofs.Machines.{leaf-regular}
 use Rattle.automata.proofs.Projection.{regular-but, regular-zeros}
 use Rattle.automata.proofs.Regular.{Regular, regular-and, regular-iff, regular-not}
@@ -34,8 +34,8 @@ bound k (single x) t = tt
 bound k (next x y) t = tt
 bound k (before x y) t = tt
 bound k (not1 c) t = bound k c t
-bound k (and1 c d) t = let (a, b) = T-both (ok k c) (ok k d) t in (bound k c a, bound k d b)
-bound k (some x c) t = let (a, b) = T-both (ltb x k) (ok k c) t in (ltb→lt x k a, bound k c b)
+bound k (and1 c d) t = let (a, b) = both-passed (ok k c) (ok k d) t in (bound k c a, bound k d b)
+bound k (some x c) t = let (a, b) = both-passed (ltb x k) (ok k c) t in (ltb→lt x k a, bound k c b)
 
 regular-leaf : (k : ℕ) (a : Kind) → Regular k (Of (claim a))
 regular-leaf k a = leaf-regular k (Holds (claim a)) (machine a) (leaf a)

@@ -17,6 +17,7 @@ use Rattle.automata.specs.Subsets.{Completes, Live, accepts-set, start-set, st
 use Rattle.automata.specs.Tables.{Collapsed, Exact, Table, run}
 use Rattle.automata.specs.Worked.{Worked}
 use Rattle.automata.proofs.Beyond.{Beyond, some-beyond}
+use Rattle.automata.proofs.Decisions.{not-same, not-true}
 use Rattle.automata.proofs.Explored.{explored-exact, explored-table}
 use Rattle.automata.proofs.Exploring.{too-many}
 use Rattle.automata.proofs.Joined.{written-collapsed, written-table}
@@ -53,16 +54,6 @@ module _ (k n : ℕ) (a : Kind) (m : ℕ) (at : ℕ → ℕ) (δ : ℕ → ℕ �
       exact-many k (Same-left k (Of (claim a))) o n (λ i b. cls (δ (rep i) b)) (leaf-exact (λ i b. cls (δ (rep i) b)) (λ i. g (rep i)) record { steps = λ i b _ _. refl; accepts = λ i _. refl }) h (leaf-top k n a .1 t)
 
 -- not: the same classes
-not-true : (b : Bool) → (not b ≡ true) ↔ (b ≡ true → ⊥)
-not-true true = (λ h. absurd (false≢true h), λ h. absurd (h refl))
-not-true false = (λ h g. false≢true g, λ h. refl)
-
-not-same : (a b : Bool) → not a ≡ not b → a ≡ b
-not-same true true h = refl
-not-same true false h = absurd (false≢true h)
-not-same false true h = sym h
-not-same false false h = refl
-
 pub not-table : (k : ℕ) (L : Lang) (m : ℕ) (δ : ℕ → ℕ → ℕ) (f : ℕ → Bool) → Table k L m δ f → Table k (λ w. L w → ⊥) m δ (λ q. not (f q))
 not-table k L m δ f t = record {
   connected = t .connected;

@@ -11,13 +11,13 @@ use Rattle.claims.specs.Rows.{row, ok}
 use Rattle.claims.specs.Fronts.{Front, No-front}
 use Rattle.claims.proofs.OneClaim.{parts, one-front}
 
-pub together : (a b : Bool) → T a → T b → T (a && b)
-together true b p q = q
-together false b p q = absurd p
+pub pass-both : (a b : Bool) → T a → T b → T (a && b)
+pass-both true b p q = q
+pass-both false b p q = absurd p
 
-pub apart : (a b : Bool) → T (a && b) → T a × T b
-apart true b p = (tt, p)
-apart false b p = absurd p
+pub both-passed : (a b : Bool) → T (a && b) → T a × T b
+both-passed true b p = (tt, p)
+both-passed false b p = absurd p
 
 -- a claim has a byte at least, so less stands behind it
 row-long : (c : C) → 0 < length (row c)
@@ -49,26 +49,26 @@ no-not k r s e n c t f =
     n d t (record { rows = q; fine = subst (λ c. T (ok k c)) p (f .fine) })
 
 pub front-some : (k x : ℕ) (c : C) (r s t : List ℕ) → 6 ∷ x ∷ r ≡ s → T (ltb x k) → Front k c r t → Front k (some x c) s t
-front-some k x c r s t e l f = record { rows = ap (λ z. 6 ∷ x ∷ z) (f .rows) ∙ e; fine = together (ltb x k) (ok k c) l (f .fine) }
+front-some k x c r s t e l f = record { rows = ap (λ z. 6 ∷ x ∷ z) (f .rows) ∙ e; fine = pass-both (ltb x k) (ok k c) l (f .fine) }
 
 pub no-some : (k x : ℕ) (r s : List ℕ) → 6 ∷ x ∷ r ≡ s → (T (ltb x k) → No-front k r) → No-front k s
 no-some k x r s e n c t f =
     let (y, d, p, q) = parts c t 6 (x ∷ r) (f .rows ∙ sym e) in
-    let (l, o) = apart (ltb y k) (ok k d) (subst (λ c. T (ok k c)) p (f .fine)) in
+    let (l, o) = both-passed (ltb y k) (ok k d) (subst (λ c. T (ok k c)) p (f .fine)) in
     let i : y ≡ x = cc in
     n (subst (λ y. T (ltb y k)) i l) d t (record { rows = cc; fine = o })
 
 pub front-and : (k : ℕ) (c d : C) (r s m t : List ℕ) → 5 ∷ r ≡ s → Front k c r m → Front k d m t → Front k (and1 c d) s t
 front-and k c d r s m t e f g = record {
   rows = ap (λ z. 5 ∷ z) (append-assoc (row c) (row d) t ∙ ap (λ z. row c ++ z) (g .rows) ∙ f .rows) ∙ e;
-  fine = together (ok k c) (ok k d) (f .fine) (g .fine);
+  fine = pass-both (ok k c) (ok k d) (f .fine) (g .fine);
 }
 
 -- behind every first part the second is missing
 pub no-and : (k : ℕ) (r s : List ℕ) → 5 ∷ r ≡ s → ((c : C) (m : List ℕ) → Front k c r m → No-front k m) → No-front k s
 no-and k r s e n c t f =
     let (d₁, d₂, p, q) = parts c t 5 r (f .rows ∙ sym e) in
-    let (o₁, o₂) = apart (ok k d₁) (ok k d₂) (subst (λ c. T (ok k c)) p (f .fine)) in
+    let (o₁, o₂) = both-passed (ok k d₁) (ok k d₂) (subst (λ c. T (ok k c)) p (f .fine)) in
     n d₁ (row d₂ ++ t) (record { rows = q; fine = o₁ }) d₂ t (record { rows = refl; fine = o₂ })
 
 pub no-first : (k : ℕ) (r s : List ℕ) → 5 ∷ r ≡ s → No-front k r → No-front k s

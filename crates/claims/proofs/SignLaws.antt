@@ -1,4 +1,4 @@
--- The sign that bytes begin with: its bytes put together again, and none without a sign.
+-- The sign that bytes begin with: its bytes put pass-both again, and none without a sign.
 use mathlib.Core.Path.{_≡_, sym, ap, subst}
 use mathlib.Core.List.{List, [], _∷_, _++_}
 use Prim.Native.Nat.{ℕ, _-_, _≤_}
@@ -12,7 +12,7 @@ use Rattle.claims.specs.Rows.{row}
 use Rattle.claims.specs.Signs.{head}
 use Rattle.claims.specs.Fronts.{No-front}
 
--- bytes that are read one by one, put together again
+-- bytes that are read one by one, put pass-both again
 pub back1 : (s : List ℕ) (a : ℕ) → 1 ≤ length s → getD s 0 0 ≡ a → a ∷ take (length s - 1) (drop 1 s) ≡ s
 back1 [] a l h = absurd (omega arith)
 back1 (x ∷ t) a l h = rw (take-rest (x ∷ t) 1) (ap (λ y. y ∷ t) (sym h))

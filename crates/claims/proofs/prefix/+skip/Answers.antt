@@ -15,7 +15,7 @@ use Rattle.claims.specs.Claims.{C, within, single, next, before, not1, and1, s
 use Rattle.claims.specs.Rows.{row, ok}
 use Rattle.claims.specs.Fronts.{Front, No-front}
 use Rattle.claims.proofs.SignLaws.{sign-is, no-sign}
-use Rattle.claims.proofs.FrontLaws.{together, apart, shorter, no-other, front-not, no-not, front-some, no-some, front-and, no-first, no-second}
+use Rattle.claims.proofs.FrontLaws.{pass-both, both-passed, shorter, no-other, front-not, no-not, front-some, no-some, front-and, no-first, no-second}
 use Rattle.claims.proofs.prefix.+skip.Needs as need
 
 -- what the answer for the last part says of the whole
@@ -25,12 +25,12 @@ lift k r s (Some p) f g h = g (h .0) (now p) (h .1)
 
 -- a claim d of two sets and no parts
 two : (k x y : ℕ) (d : C) (r s : List ℕ) → row d ++ r ≡ s → ok k d ≡ (ltb x k && ltb y k) → x < k → y < k → (c : C) × Front k c s r
-two k x y d r s e o p q = (d, record { rows = e; fine = subst T (sym o) (together (ltb x k) (ltb y k) (lt→ltb x k p) (lt→ltb y k q)) })
+two k x y d r s e o p q = (d, record { rows = e; fine = subst T (sym o) (pass-both (ltb x k) (ltb y k) (lt→ltb x k p) (lt→ltb y k q)) })
 
 no-two : (k x y : ℕ) (d : C) (r s : List ℕ) → row d ++ r ≡ s → ok k d ≡ (ltb x k && ltb y k) → (x < k × k ≤ y) ⊎ (k ≤ x) → No-front k s
 no-two k x y d r s e o p =
     no-other k d r s e (λ h.
-    let (a, b) = apart (ltb x k) (ltb y k) (subst T o h) in
+    let (a, b) = both-passed (ltb x k) (ltb y k) (subst T o h) in
     omega (arith, ltb→lt x k a, ltb→lt y k b))
 
 pub returns-in-Break-sign : need.returns-in-Break-sign
