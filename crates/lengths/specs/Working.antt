@@ -1,0 +1,36 @@
+-- What working out a part says, and the memory that it is lent.
+use mathlib.Core.Path.{_≡_}
+use mathlib.Core.List.{List}
+use Prim.Native.Nat.{ℕ, _+_, _*_, _^_, _<_, _≤_}
+use lib.Dec.{T}
+use Rattle.std.specs.Options.{Cases}
+use Rattle.std.specs.declared.option.Option.{Option}
+use Rattle.claims.specs.Claims.{C}
+use Rattle.claims.specs.Sizes.{Fits}
+use Rattle.claims.specs.Rows.{row, ok}
+use Rattle.automata.specs.Worked.{Worked}
+use Rattle.tables.specs.Cells.{entry, accepts}
+
+-- claim c does not fit into n, or its exact table, of at most n classes, stands in memory
+abbrev pub Result : ℕ → ℕ → C → List ℕ → List ℕ → Option ℕ → Type 0
+Result k n c rows accept r = Cases r (Fits k n c → ⊥) (λ m. (m ≤ n) × Worked k n c m (entry rows (2 ^ k)) (accepts accept))
+-- the part with bytes s is worked out, whichever claim about k sets it is
+abbrev pub WorkedOut : ℕ → ℕ → List ℕ → List ℕ → List ℕ → Option ℕ → Type 0
+WorkedOut k n s rows accept r = (c : C) → row c ≡ s → Result k n c rows accept r
+-- the bytes of a part
+abbrev pub is-part : ℕ → List ℕ → Type 0
+is-part k s = (c : C) × (row c ≡ s) × T (ok k c)
+
+-- the words of one table of n classes: its rows, and which classes accept
+abbrev pub slot : ℕ → ℕ → ℕ
+slot k n = n * 2 ^ k + n
+-- room for working out a part of s bytes: its table, a free slot for each doubling of its length, and scratch. A part of fewer than 2 ^ slots bytes takes as many slots:
+-- of the two parts of an and the larger is worked out first, with all of them; the smaller has less than half the bytes, and gets by with one fewer
+pub record Lent (s k n rows accept free scratch pairs : ℕ) : Type 0 where
+  pub slots : ℕ
+  pub bytes : s < 2 ^ slots
+  pub rows-fit : n * 2 ^ k ≤ rows
+  pub accept-fits : n ≤ accept
+  pub free-fits : slots * slot k n ≤ slot k n + free
+  pub scratch-fits : 12 * 2 ^ k + 96 * (n + 1) ≤ scratch
+  pub pairs-fit : (n + 1) * n ≤ pairs
