@@ -1,5 +1,6 @@
 // What stands on a line: `most hexbytes`, with one space between them. `-` stands for no bytes.
 ghost use mathlib.Core.Path.{_≡_};
+ghost use mathlib.Core.List.{_∷_, _++_};
 ghost use Prim.Native.Nat.{ℕ, _<_, _≤_};
 ghost use lib.ListN.{length, getD};
 ghost use Rattle.std.specs.Options.{Cases};
@@ -35,7 +36,9 @@ fn field_end(text: &[u8]) -> usize
 }
 
 // The two fields of a line.
-pub fn fields(line: &[u8]) -> Result<(&[u8], &[u8]), Fault<'_>> {
+pub fn fields(line: &[u8]) -> Result<(&[u8], &[u8]), Fault<'_>>
+    ensures { λ r. ⌜ ByOk r (λ p. now (p .0) ++ (32 ∷ now (p .1)) ≡ now (line .entry)) (λ _. Unit {0}) ⌝ }
+{
     if line.is_empty() {
         return Err(Fault::Empty);
     }
