@@ -48,7 +48,10 @@ fn tell_fault(rt: &LibcRuntime, number: u64, fault: Fault) -> io::Result<()> {
                 "\"{field}\" where most is a number from 0 to 4294967295"
             )
         }
-        Fault::OddDigits(count) => println!(rt, "{count} hex digits where each byte takes two"),
+        Fault::OddDigits(count) => println!(
+            rt,
+            "an odd number of characters, {count}, where two hex digits make a byte"
+        ),
         Fault::NoPair(a, b) => {
             let pair = [a, b];
             let pair = shown(&pair);

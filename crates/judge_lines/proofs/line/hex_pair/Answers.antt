@@ -1,5 +1,5 @@
 use mathlib.Core.Path.{refl}
-use Rattle.judge_lines.specs.Line.{Pair, pair}
+use Rattle.judge_lines.specs.Line.{pair}
 use Rattle.judge_lines.proofs.line.hex_pair.Needs as need
 
 pub returns-in-Break-high : need.returns-in-Break-high

@@ -5,7 +5,7 @@ use native.Mathlib.Omega.{arith}
 use borrow.Author.Needs.{needs}
 use lib.ListN.{length, getD, take, drop}
 use Rattle.std.specs.Of.Vec.{vec-items}
-use Rattle.claims.proofs.SignLaws.{back1, back2}
+use Rattle.claims.proofs.SignLaws.{back2}
 use Rattle.judge_lines.specs.Line.{Pair, Pairs, no-pairs, then-pair, Field, dash, pairs}
 use Rattle.judge_lines.proofs.line.read_bytes.Needs as need
 
