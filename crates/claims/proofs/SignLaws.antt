@@ -7,7 +7,7 @@ use lib.ListN.{length, getD, take, drop}
 use Rattle.std.proofs.shelf.Lists.{take-rest}
 use Rattle.claims.specs.declared.sign.Sign.{Sign}
 use Rattle.claims.specs.declared.sign.Sign.the-variants.{Within, Single, Next, Before, Not, And, Some}
-use Rattle.claims.specs.Claims.{C, within, single, next, before, not1, and1, some}
+use Rattle.claims.specs.Claims.{within, single, next, before, not1, and1, some}
 use Rattle.claims.specs.Rows.{row}
 use Rattle.claims.specs.Signs.{head}
 use Rattle.claims.specs.Fronts.{No-front}

@@ -3,6 +3,8 @@ pub mod Claims
 pub mod Sizes
 pub mod Rows
 pub mod Laws
+-- reading them: the sign that bytes begin with, the claim that bytes begin with
 pub mod Signs
 pub mod Fronts
+-- worked cases
 pub mod Cases

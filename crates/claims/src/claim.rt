@@ -1,5 +1,4 @@
 // Whether bytes are a claim, and about how many sets.
-ghost use mathlib.Core.Path.{_≡_};
 ghost use Rattle.std.specs.Options.{Cases};
 ghost use Rattle.claims.specs.Cases.{Worked};
 ghost use Rattle.claims.specs.Claims.{C, within, next, not1, and1, some};

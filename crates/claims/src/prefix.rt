@@ -1,8 +1,7 @@
 // The claim that bytes begin with.
 // A claim stands in prefix order: a sign, its sets, and then its parts one after the other. So the end of a part is found by reading on,
 // and what is left to read falls with each sign.
-ghost use mathlib.Core.Path.{_≡_};
-ghost use Prim.Native.Nat.{ℕ, _≤_};
+ghost use Prim.Native.Nat.{_≤_};
 ghost use lib.ListN.{length, drop};
 ghost use Rattle.std.specs.Options.{Cases};
 ghost use Rattle.claims.specs.Claims.{C};

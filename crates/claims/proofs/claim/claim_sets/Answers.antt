@@ -1,12 +1,12 @@
 use mathlib.Core.Path.{_≡_, refl, sym, _∙_, ap, subst}
 use mathlib.Core.List.{List, [], _∷_}
-use Prim.Native.Nat.{ℕ, _-_, _≤_, _<_}
+use Prim.Native.Nat.{ℕ, _<_}
 use native.Mathlib.Omega.{arith}
 use borrow.Author.Needs.{needs}
-use lib.ListN.{length, getD, take, drop}
+use lib.ListN.{length, getD}
 use Rattle.claims.specs.Claims.{C}
 use Rattle.claims.specs.Rows.{Claim, is-claim}
-use Rattle.claims.specs.Fronts.{Front, No-front}
+use Rattle.claims.specs.Fronts.{Front}
 use Rattle.claims.proofs.OneClaim.{one-front, one-claim}
 use Rattle.claims.proofs.SignLaws.{back1}
 use Rattle.claims.proofs.ClaimLaws.{claim-bounds, front-claim}

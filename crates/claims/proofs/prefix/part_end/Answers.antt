@@ -4,9 +4,8 @@ use Prim.Native.Nat.{ℕ, _+_, _-_, _≤_}
 use native.Mathlib.Omega.{arith}
 use lib.ListN.{length, take, drop, length-append, length-drop}
 use Rattle.std.proofs.shelf.Lists.{take-rest, take-append-drop, drop-at}
-use Rattle.claims.specs.Claims.{C}
 use Rattle.claims.specs.Rows.{row}
-use Rattle.claims.specs.Fronts.{Front, No-front}
+use Rattle.claims.specs.Fronts.{No-front}
 use Rattle.claims.proofs.FrontLaws.{shorter}
 use Rattle.claims.proofs.prefix.part_end.Needs as need
 

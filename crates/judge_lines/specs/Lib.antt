@@ -1,0 +1,2 @@
+-- What stands on a line.
+pub mod Line
