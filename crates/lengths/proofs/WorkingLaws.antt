@@ -1,29 +1,43 @@
 -- Working out: the claim that a part's bytes are, what each sign makes of its parts' results, and that the memory suffices.
-use mathlib.Core.Path.{_≡_, subst}
+use mathlib.Core.Path.{_≡_, subst, _∙_, sym}
 use mathlib.Core.Bool.{Bool}
-use mathlib.Core.List.{List, [], append-nil}
-use Rattle.std.specs.declared.option.Option.{Option}
-use Rattle.std.specs.declared.option.Option.the-variants.{Some, None}
+use mathlib.Core.List.{List, [], _++_}
 use Prim.Native.Nat.{_*_, _+_, _-_, _<_, _^_, _≤_, suc, zero, ℕ}
 use native.Mathlib.Nat.{pow-suc, suc-mul}
 use native.Mathlib.Omega.{arith}
+use lib.Dec.{T, ltb, ltb→lt}
 use Rattle.std.proofs.shelf.Bits.{mul-le}
+use Rattle.std.specs.declared.option.Option.{Option}
+use Rattle.std.specs.declared.option.Option.the-variants.{Some, None}
 use Rattle.claims.specs.Claims.{C, and1, before, next, not1, single, some, within}
-use Rattle.claims.specs.Rows.{row}
+use Rattle.claims.specs.Fronts.{Front}
+use Rattle.claims.specs.Rows.{row, ok}
 use Rattle.claims.specs.Sizes.{Fits, Top}
+use Rattle.claims.proofs.FrontLaws.{both-passed, same-front}
 use Rattle.claims.proofs.OneClaim.{one-front}
+use Rattle.automata.specs.Machines.{Kind, claim}
+use Rattle.automata.specs.Search.{Before}
 use Rattle.automata.specs.Worked.{Worked}
 use Rattle.automata.proofs.Counting.{nth-below}
 use Rattle.tables.specs.Cells.{accepts, entry}
+use Rattle.leaves.specs.Kind.{Named, said}
 use Rattle.lengths.specs.Working.{Lent, Result, WorkedOut, slot}
 
--- Bytes are the row of one claim only, so a result for that claim is one for the bytes.
-pub out-of : (k n : ℕ) (d : C) (s rows accept : List ℕ) (r : Option ℕ) → row d ≡ s → Result k n d rows accept r → WorkedOut k n s rows accept r
-out-of k n d s rows accept r e y c h =
-    let p = append-nil (row c) in
-    let q = append-nil (row d) in
-    let z : d ≡ c = one-front d c [] [] (cc) .0 in
-    subst (λ t. Result k n t rows accept r) z y
+-- Bytes are one claim only, so a result for that claim is one for the bytes.
+pub out-of : (k n : ℕ) (d : C) (s rows accept : List ℕ) (r : Option ℕ) → Front k d s [] → Result k n d rows accept r → WorkedOut k n s rows accept r
+out-of k n d s rows accept r f y c g = subst (λ t. Result k n t rows accept r) (same-front k k d c s [] [] f g .0) y
+
+-- The claims that a part's bytes are, by their sign: a kind without parts, and the parts of the others.
+named-ok : (k : ℕ) (a : Kind) → T (ok k (claim (said a))) → Named k a
+named-ok k (Within x y) t = let (p, q) = both-passed (ltb (x .0) k) (ltb (y .0) k) t in (ltb→lt (x .0) k p, ltb→lt (y .0) k q)
+named-ok k (Single x) t = ltb→lt (x .0) k t
+named-ok k (Next x y) t = let (p, q) = both-passed (ltb (x .0) k) (ltb (y .0) k) t in (ltb→lt (x .0) k p, ltb→lt (y .0) k q)
+named-ok k (Before x y) t = let (p, q) = both-passed (ltb (x .0) k) (ltb (y .0) k) t in (ltb→lt (x .0) k p, ltb→lt (y .0) k q)
+pub leaf-front : (k : ℕ) (a : Kind) (c : C) (rest s : List ℕ) → row (claim (said a)) ++ rest ≡ s → Front k c s [] → Named k a × Front k (claim (said a)) s []
+leaf-front k a c rest s e f =
+    let (g, h) = one-front (claim (said a)) c rest [] (e ∙ sym (f .rows)) in
+    let t : T (ok k (claim (said a))) = subst (λ z. T (ok k z)) (sym g) (f .fine) in
+    (named-ok k a t, subst (λ z. Front k z s []) (sym g) f)
 
 -- The two parts of an and may be worked out in either order.
 swap-classes : (k n : ℕ) (c d : C) → Top k n (and1 c d) → Top k n (and1 d c)

@@ -1,25 +1,27 @@
 -- What working out a part says, and the memory that it is lent.
 use mathlib.Core.Path.{_≡_}
-use mathlib.Core.List.{List}
+use mathlib.Core.List.{List, []}
 use Prim.Native.Nat.{ℕ, _+_, _*_, _^_, _<_, _≤_}
-use lib.Dec.{T}
 use Rattle.std.specs.Options.{Cases}
 use Rattle.std.specs.declared.option.Option.{Option}
 use Rattle.claims.specs.Claims.{C}
 use Rattle.claims.specs.Sizes.{Fits}
-use Rattle.claims.specs.Rows.{row, ok}
+use Rattle.claims.specs.Fronts.{Front}
 use Rattle.automata.specs.Worked.{Worked}
 use Rattle.tables.specs.Cells.{entry, accepts}
 
+-- claim c's exact table, of m classes, at most n, stands in memory
+abbrev pub Stands : ℕ → ℕ → C → List ℕ → List ℕ → ℕ → Type 0
+Stands k n c rows accept m = (m ≤ n) × Worked k n c m (entry rows (2 ^ k)) (accepts accept)
 -- claim c does not fit into n, or its exact table, of at most n classes, stands in memory
 abbrev pub Result : ℕ → ℕ → C → List ℕ → List ℕ → Option ℕ → Type 0
-Result k n c rows accept r = Cases r (Fits k n c → ⊥) (λ m. (m ≤ n) × Worked k n c m (entry rows (2 ^ k)) (accepts accept))
--- the part with bytes s is worked out, whichever claim about k sets it is
-abbrev pub WorkedOut : ℕ → ℕ → List ℕ → List ℕ → List ℕ → Option ℕ → Type 0
-WorkedOut k n s rows accept r = (c : C) → row c ≡ s → Result k n c rows accept r
--- the bytes of a part
+Result k n c rows accept r = Cases r (Fits k n c → ⊥) (Stands k n c rows accept)
+-- the bytes of a part: one claim about k sets, and nothing behind it
 abbrev pub is-part : ℕ → List ℕ → Type 0
-is-part k s = (c : C) × (row c ≡ s) × T (ok k c)
+is-part k s = (c : C) × Front k c s []
+-- the part with bytes s is worked out, whichever claim it is
+abbrev pub WorkedOut : ℕ → ℕ → List ℕ → List ℕ → List ℕ → Option ℕ → Type 0
+WorkedOut k n s rows accept r = (c : C) → Front k c s [] → Result k n c rows accept r
 
 -- the words of one table of n classes: its rows, and which classes accept
 abbrev pub slot : ℕ → ℕ → ℕ

@@ -1,0 +1,3 @@
+pub mod SpellLaws
+pub mod SearchLaws
+pub mod FirstLaws

@@ -1,0 +1,5 @@
+pub mod PairsLaws
+pub mod PartsLaws
+pub mod NumberingLaws
+pub mod RoundsLaws
+pub mod QuotientLaws

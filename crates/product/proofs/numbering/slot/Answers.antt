@@ -1,0 +1,13 @@
+use mathlib.Core.Path.{refl}
+use native.Mathlib.Omega.{arith}
+use Rattle.product.proofs.NumberingLaws.{slot-fits}
+use Rattle.product.proofs.numbering.slot.Needs as need
+
+pub mul-result : need.mul-result
+mul-result c = omega (arith, slot-fits (c .pre .0) (c .pre .1 .0))
+
+pub add-result : need.add-result
+add-result c = omega (arith, slot-fits (c .pre .0) (c .pre .1 .0))
+
+pub returns : need.returns
+returns c = (refl, slot-fits (c .pre .0) (c .pre .1 .0))

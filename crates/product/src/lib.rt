@@ -1,0 +1,4 @@
+// The product of two tables.
+mod factors;
+pub mod numbering;
+pub mod pairs;
