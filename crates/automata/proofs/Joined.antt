@@ -73,24 +73,14 @@ module _ (k m : ℕ) (δ : ℕ → ℕ → ℕ) (f : ℕ → Bool) (cls rep : �
       cc
 
 -- A stable partition is exactly the classes that are alike.
-module _ (k m : ℕ) (δ : ℕ → ℕ → ℕ) (f : ℕ → Bool) (cls : ℕ → ℕ) (g : Connected k m δ) (s : Stable k m δ f cls) where
-  stable-runs : (p q : ℕ) (x : Word) → p < m → q < m → Columns k x → cls p ≡ cls q → f (run δ p x) ≡ f (run δ q x)
-  stable-runs p q [] hp hq c e = s .accepts p q hp hq e
-  stable-runs p q (a ∷ x) hp hq c e = stable-runs (δ p a) (δ q a) x (g .closed p a hp (c .0)) (g .closed q a hq (c .0)) (c .1) (s .steps p q a hp hq (c .0) e)
-
-  pub stable-alike : (p q : ℕ) → p < m → q < m → (cls p ≡ cls q) ↔ Alike k δ f p q
-  stable-alike p q hp hq = (λ e x hx. stable-runs p q x hp hq hx e, s .whole p q hp hq)
+module _ (k m : ℕ) (δ : ℕ → ℕ → ℕ) (f : ℕ → Bool) (cls : ℕ → ℕ) (closed : (q a : ℕ) → q < m → a < 2 ^ k → δ q a < m) (s : Stable k m δ f cls) where
+  pub stable-alike : (p q : ℕ) → p < m → q < m → cls p ≡ cls q → Alike k δ f p q
+  stable-alike p q hp hq e [] c = s .accepts p q hp hq e
+  stable-alike p q hp hq e (a ∷ x) c = stable-alike (δ p a) (δ q a) (closed p a hp (c .0)) (closed q a hq (c .0)) (s .steps p q a hp hq (c .0) e) x (c .1)
 
   -- with the classes numbered from that of the start on, and a class named for each, they are joined
   pub stable-joined : (rep : ℕ → ℕ) (n : ℕ) → cls 0 ≡ 0 → ((q : ℕ) → q < m → cls q < n) → ((i : ℕ) → i < n → rep i < m) → ((i : ℕ) → i < n → cls (rep i) ≡ i) → Joined k m δ f cls rep n
-  stable-joined rep n z below rep-below cls-rep = record {
-    start = z;
-    cls-below = below;
-    rep-below = rep-below;
-    cls-rep = cls-rep;
-    alike = λ p q hp hq e. stable-alike p q hp hq .0 e;
-    apart = s .whole;
-  }
+  stable-joined rep n z below rep-below cls-rep = record { start = z; cls-below = below; rep-below = rep-below; cls-rep = cls-rep; alike = stable-alike; apart = s .whole }
 
 -- The joined table, as it is written: by functions that are cls (δ (rep i) a) and the acceptance of rep i on the joined classes; acceptance g of the classes may differ from f beyond them.
 module _ (k m : ℕ) (δ : ℕ → ℕ → ℕ) (f g : ℕ → Bool) (cls rep : ℕ → ℕ) (n : ℕ) (δ′ : ℕ → ℕ → ℕ) (f′ : ℕ → Bool) (c : Connected k m δ) (j : Joined k m δ g cls rep n) (same : (q : ℕ) → q < m → g q ≡ f q) (w : Written k δ g cls rep n δ′ f′) where

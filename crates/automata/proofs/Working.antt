@@ -108,10 +108,10 @@ module _ (k n x : ℕ) (c : C) (m : ℕ) (δ : ℕ → ℕ → ℕ) (f : ℕ →
   worked-some o at γ completed g e few ha same cls rep r j δ′ f′ w =
       let acc : (ℕ → Bool) → Bool = accepts-set m completed in
       let tb : Table k (Of (some x c)) o γ (λ i. acc (at i)) = explored-table k (step-set m δ live x) (start-set live) o at γ e (Of (some x c)) acc (λ w hw.
-        (let l = subset-says k x m δ f live h (t .table .connected) is (Of c) (t .table) w hw in
-         let y = accepts-says m completed (Completes x δ f) ha (run (step-set m δ live x) (start-set live) w) in
-         let z = some-beyond x c w in
-         (λ p. z .1 (l .0 (y .0 p)), λ p. y .1 (l .1 (z .0 p))))) in
+      (let l = subset-says k x m δ f live h (t .table .connected) is (Of c) (t .table) w hw in
+      let y = accepts-says m completed (Completes x δ f) ha (run (step-set m δ live x) (start-set live) w) in
+      let z = some-beyond x c w in
+      (λ p. z .1 (l .0 (y .0 p)), λ p. y .1 (l .1 (z .0 p))))) in
       record {
         table = written-table k o γ (λ i. acc (at i)) g cls rep r δ′ f′ (e .connected) j same w (Of (some x c)) tb;
         collapsed = written-collapsed k o γ (λ i. acc (at i)) g cls rep r δ′ f′ (e .connected) j same w;

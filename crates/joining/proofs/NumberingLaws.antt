@@ -8,14 +8,15 @@ use borrow.Author.Count.{below-none, below-more}
 use lib.ListN.{length, getD, set}
 use Rattle.std.proofs.shelf.Lists.{getD-set-same, getD-set-other}
 use Rattle.automata.specs.Product.{Pair, pair, left, right}
-use Rattle.joining.specs.Pairs.{Pairs, Interned}
+use Rattle.tables.specs.Numbering.{Numbered}
+use Rattle.joining.specs.Pairs.{Interned}
 use Rattle.joining.specs.Parts.{Partition, Parted}
 use Rattle.joining.proofs.PairsLaws.{pairs-none}
 
 -- the classes before q have the numbers of their pairs (old, key), the others their old parts; each number was first given to the class `first`
 pub record Numbering (m : ℕ) (old key : ℕ → ℕ) (q : ℕ) (new first : ℕ → ℕ) (count : ℕ) (lefts rights index : List ℕ) : Type 0 where
   pub few : count ≤ q
-  pub pairs : Pairs m count lefts rights index
+  pub pairs : Numbered m m lefts rights index count
   pub given : (p : ℕ) → p < q → new p < count
   pub lefts-are : (p : ℕ) → p < q → getD lefts (new p) 0 ≡ old p
   pub rights-are : (p : ℕ) → p < q → getD rights (new p) 0 ≡ key p
@@ -115,7 +116,7 @@ module _ {m : ℕ} {old key : ℕ → ℕ} where
   numbering-end {q} {new} {first} {count} {lefts} {rights} {index} n e = whole (rw e at n)
     where
       place : (n : Numbering m old key m new first count lefts rights index) (p : ℕ) → p < m → getD index (old p * m + key p) 0 ≡ new p
-      place n p h = rw (sym (n .lefts-are p h), sym (n .rights-are p h)) (n .pairs .placed (new p) (n .given p h))
+      place n p h = rw (sym (n .lefts-are p h), sym (n .rights-are p h)) (n .pairs .number (new p) (n .given p h))
 
       whole : Numbering m old key m new first count lefts rights index → Parted m (λ q. pair (old q) (key q)) new first count
       whole n = record {

@@ -7,6 +7,7 @@ use native.Mathlib.Decide.{ℕ-discrete}
 use native.Mathlib.Omega.{arith}
 use Rattle.words.specs.Words.{Word, Columns}
 use Rattle.automata.specs.Joined.{Joined, Stable}
+use Rattle.automata.proofs.Joined.{stable-joined}
 use Rattle.automata.specs.Product.{pair}
 use Rattle.automata.specs.Tables.{Alike, run}
 use Rattle.joining.specs.Parts.{Partition, Parted}
@@ -70,23 +71,8 @@ module _ {k m : ℕ} {δ : ℕ → ℕ → ℕ} {f : ℕ → Bool} where
       }
 
   module _ {width : ℕ} (wide : width ≡ 2 ^ k) (below : (q a : ℕ) → q < m → a < width → δ q a < m) where
-    -- a stable partition is exactly the classes that are alike
-    stable-runs : {cls : ℕ → ℕ} → Stable k m δ f cls → (p q : ℕ) (x : Word) → p < m → q < m → Columns k x → cls p ≡ cls q → f (run δ p x) ≡ f (run δ q x)
-    stable-runs s p q [] hp hq c e = s .accepts p q hp hq e
-    stable-runs s p q (a ∷ x) hp hq c e = stable-runs s (δ p a) (δ q a) x (closed k wide below p a hp (c .0)) (closed k wide below q a hq (c .0)) (c .1) (s .steps p q a hp hq (c .0) e)
-
     stable-done : {cls first : ℕ → ℕ} {n : ℕ} → Partition m cls first n → Stable k m δ f cls → 0 < m → Done k m δ f cls first n
-    stable-done p s h = record {
-      parts = p;
-      joined = record {
-        start = parts-start p h;
-        cls-below = p .below;
-        rep-below = p .first-below;
-        cls-rep = p .first-in;
-        alike = λ q r hq hr e x hx. stable-runs s q r x hq hr hx e;
-        apart = s .whole;
-      };
-    }
+    stable-done {cls} {first} {n} p s h = record { parts = p; joined = stable-joined k m δ f cls (closed k wide below) s first n (parts-start p h) (p .below) (p .first-below) (p .first-in) }
 
     -- where every class is alone there is nothing left to split
     pub done-alone : {cls first : ℕ → ℕ} {n : ℕ} → Coarse k m δ f cls first n → n ≡ m → 0 < m → Done k m δ f cls first n

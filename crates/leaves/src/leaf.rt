@@ -52,7 +52,12 @@ pub fn leaf(
 {
     let count = explore(kind, k, at, states);
     accept_states(kind, at, count, accepting);
-    let t = Table { rows: states, accept: accepting, classes: count, width: 1usize << k };
+    let t = Table {
+        rows: states,
+        accept: accepting,
+        classes: count,
+        width: 1usize << k,
+    };
     let n = join(t, k, cls, firsts, cur, lefts, rights, index);
     if n > most {
         return None;

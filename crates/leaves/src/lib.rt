@@ -1,4 +1,4 @@
 // Tables of the claims without parts.
 pub mod explore;
-pub mod leaf;
 pub mod kind;
+pub mod leaf;

@@ -63,7 +63,17 @@ pub fn cut_scratch(words: &mut [u32], width: usize, most: usize) -> Scratch<'_>
     let (e, rest) = rest.split_at_mut(n);
     let (f, rest) = rest.split_at_mut(n);
     let (g, _) = rest.split_at_mut(n);
-    Scratch { states, index, a, b, c, d, e, f, g }
+    Scratch {
+        states,
+        index,
+        a,
+        b,
+        c,
+        d,
+        e,
+        f,
+        g,
+    }
 }
 
 // One table in free memory, and what is free behind it.

@@ -9,7 +9,7 @@ use Rattle.automata.proofs.Exploring.{upd, upd-here, upd-else}
 use Rattle.tables.specs.Cells.{put-entry}
 use Rattle.tables.specs.Search.{Searching}
 use Rattle.tables.proofs.SearchLaws.{searching-start, searching-row, searching-old, searching-new, searching-many, searching-end}
-use Rattle.product.specs.Numbering.{pair-at, Number-of, No-number, Numbered}
+use Rattle.tables.specs.Numbering.{pair-at, Number-of, No-number, Numbered}
 use Rattle.product.specs.Pairing.{steps, Room, Pairing, In-row, Found, Too-many-pairs}
 use Rattle.product.specs.Pairs.{moves}
 use Rattle.product.specs.declared.factors.Factors.{Factors}

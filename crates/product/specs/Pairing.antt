@@ -7,7 +7,7 @@ use Rattle.automata.specs.Product.{Pair, pair}
 use Rattle.automata.specs.Search.{Explored, Too-many}
 use Rattle.tables.specs.Cells.{entry}
 use Rattle.tables.specs.Search.{Searching}
-use Rattle.product.specs.Numbering.{pair-at, Numbered}
+use Rattle.tables.specs.Numbering.{pair-at, Numbered}
 use Rattle.product.specs.Pairs.{pair-moves}
 use Rattle.product.specs.declared.factors.Factors.{Factors}
 

@@ -9,7 +9,7 @@ use Rattle.automata.specs.Product.{Pair, pair, step-pair}
 use Rattle.automata.specs.Search.{Explored}
 use Rattle.tables.specs.Cells.{entry, accepts}
 use Rattle.tables.specs.declared.cells.Table.{Table}
-use Rattle.product.specs.Numbering.{pair-at}
+use Rattle.tables.specs.Numbering.{pair-at}
 
 -- where a column leads in a table
 abbrev pub moves : Table → ℕ → ℕ → ℕ

@@ -1,4 +1,3 @@
 // The product of two tables.
 mod factors;
-pub mod numbering;
 pub mod pairs;

@@ -19,12 +19,12 @@ ghost use Rattle.tables.specs.Cells.{accepts};
 ghost use Rattle.product.specs.Pairs.{accepting, pair-moves, Paired};
 ghost use Rattle.product.specs.Pairing.{Room, Pairing, In-row, Found, Too-many-pairs};
 use crate::factors::Factors;
-use crate::numbering::Sizes;
-use crate::numbering::find_pair;
-use crate::numbering::note_pair;
 use tables::cells::Class;
 use tables::cells::Table;
 use tables::cells::put;
+use tables::numbering::Sizes;
+use tables::numbering::find_pair;
+use tables::numbering::note_pair;
 
 // Column a of row i, which is that of the pair (p, q). How many pairs have a number then, or that they would be too many.
 fn column(

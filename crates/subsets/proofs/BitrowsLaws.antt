@@ -59,8 +59,8 @@ has-put row q v h here others r = elim (ℕ-discrete r q) [
     kept : (r ≡ q → ⊥) → bit (r % 32) (getD (set row (q / 32) v) (r / 32) 0) ≡ bit (r % 32) (getD row (r / 32) 0)
     kept n = elim (ℕ-discrete (r / 32) (q / 32)) [
       | yes e ↦
-        let m : r % 32 ≡ q % 32 → ⊥ = λ f. n (omega arith) in
-        ap (λ z. bit (r % 32) (getD (set row (q / 32) v) z 0)) e ∙ ap (bit (r % 32)) (getD-set-same row (q / 32) v 0 (omega arith)) ∙ others (r % 32) m ∙ ap (λ z. bit (r % 32) (getD row z 0)) (sym e)
+          let m : r % 32 ≡ q % 32 → ⊥ = λ f. n (omega arith) in
+          ap (λ z. bit (r % 32) (getD (set row (q / 32) v) z 0)) e ∙ ap (bit (r % 32)) (getD-set-same row (q / 32) v 0 (omega arith)) ∙ others (r % 32) m ∙ ap (λ z. bit (r % 32) (getD row z 0)) (sym e)
       | no m ↦ ap (bit (r % 32)) (getD-set-other row (q / 32) (r / 32) v 0 m)
     ]
 
@@ -121,10 +121,10 @@ module _ (row : List ℕ) (z : ℕ) (small : getD row z 0 < 2 ^ 32) where
     word-split s = let (q, h, e, p) = s in elim (decLt q (z * 32)) [
       | yes g ↦ inl (q, g, e, p)
       | no n ↦
-        let y = q - z * 32 in
-        let l : y < 32 = omega arith in
-        let f : z * 32 + y ≡ q = omega arith in
-        inr (y, sym (has-word row z y l) ∙ ap (has row) f ∙ e, subst P (sym f) p)
+          let y = q - z * 32 in
+          let l : y < 32 = omega arith in
+          let f : z * 32 + y ≡ q = omega arith in
+          inr (y, sym (has-word row z y l) ∙ ap (has row) f ∙ e, subst P (sym f) p)
     ]
 
 pub some-below-none : (P : ℕ → Type 0) (X : ℕ → Bool) → Some-below P X 0 → ⊥

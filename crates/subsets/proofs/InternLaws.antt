@@ -110,21 +110,21 @@ module _ (heads links buckets : List ℕ) (n h : ℕ) (ch : Chains heads links b
   head-more : (g : ℕ) → g < length heads → Last (set buckets n h) g (n + 1) (first-of (set heads h n) (set buckets n h) (n + 1) g)
   head-more g l = elim (ℕ-discrete g h) [
     | yes e ↦
-      let f : getD (set heads h n) g 0 ≡ n = ap (λ z. getD (set heads h n) z 0) e ∙ getD-set-same heads h n 0 lh in
-      let b : getD (set buckets n h) n 0 ≡ g = bucket-here ∙ sym e in
-      let t = first-there (set heads h n) (set buckets n h) (n + 1) g (rw f (omega arith)) (ap (λ z. getD (set buckets n h) z 0) f ∙ b) in
-      subst (Last (set buckets n h) g (n + 1)) (sym (t ∙ ap (λ z. z + 1) f)) (last-here (set buckets n h) g n b)
+        let f : getD (set heads h n) g 0 ≡ n = ap (λ z. getD (set heads h n) z 0) e ∙ getD-set-same heads h n 0 lh in
+        let b : getD (set buckets n h) n 0 ≡ g = bucket-here ∙ sym e in
+        let t = first-there (set heads h n) (set buckets n h) (n + 1) g (rw f (omega arith)) (ap (λ z. getD (set buckets n h) z 0) f ∙ b) in
+        subst (Last (set buckets n h) g (n + 1)) (sym (t ∙ ap (λ z. z + 1) f)) (last-here (set buckets n h) g n b)
     | no e ↦ subst (Last (set buckets n h) g (n + 1)) (sym (first-kept g e)) (last-other (set buckets n h) g n (first-of heads buckets n g) (λ b. e (sym b ∙ bucket-here)) (last-kept buckets (set buckets n h) g n (first-of heads buckets n g) bucket-before (ch .head g l)))
   ]
 
   link-more : (i : ℕ) → i < n + 1 → Last (set buckets n h) (getD (set buckets n h) i 0) i (getD (set links n (first-of heads buckets n h)) i 0)
   link-more i o = elim (ℕ-discrete i n) [
     | yes e ↦
-      let P : ℕ → Type 0 = λ i. Last (set buckets n h) (getD (set buckets n h) i 0) i (getD (set links n (first-of heads buckets n h)) i 0) in
-      subst P (sym e) (rw (bucket-here, getD-set-same links n (first-of heads buckets n h) 0 ll) (last-kept buckets (set buckets n h) h n (first-of heads buckets n h) bucket-before (ch .head h lh)))
+        let P : ℕ → Type 0 = λ i. Last (set buckets n h) (getD (set buckets n h) i 0) i (getD (set links n (first-of heads buckets n h)) i 0) in
+        subst P (sym e) (rw (bucket-here, getD-set-same links n (first-of heads buckets n h) 0 ll) (last-kept buckets (set buckets n h) h n (first-of heads buckets n h) bucket-before (ch .head h lh)))
     | no e ↦
-      let l : i < n = omega arith in
-      rw (bucket-before i l, getD-set-other links n i (first-of heads buckets n h) 0 e) (last-kept buckets (set buckets n h) (getD buckets i 0) i (getD links i 0) (λ j g. bucket-before j (omega arith)) (ch .link i l))
+        let l : i < n = omega arith in
+        rw (bucket-before i l, getD-set-other links n i (first-of heads buckets n h) 0 e) (last-kept buckets (set buckets n h) (getD buckets i 0) i (getD links i 0) (λ j g. bucket-before j (omega arith)) (ch .link i l))
   ]
 
   pub chains-more : Chains (set heads h n) (set links n (first-of heads buckets n h)) (set buckets n h) (n + 1)

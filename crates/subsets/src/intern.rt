@@ -52,7 +52,15 @@ fn file(h: u32, n: usize, heads: &mut [u32], links: &mut [u32], buckets: &mut [u
 }
 
 // Walks along the chain of bucket h for a row that is the same as row n: the rows at and above `next` have been ruled out, and links fall.
-fn find(sets: &[u32], w: usize, n: usize, h: u32, heads: &[u32], links: &[u32], buckets: &[u32]) -> Option<usize>
+fn find(
+    sets: &[u32],
+    w: usize,
+    n: usize,
+    h: u32,
+    heads: &[u32],
+    links: &[u32],
+    buckets: &[u32],
+) -> Option<usize>
     requires interned { ⌜ Interned (now sets) w n (now heads) (now links) (now buckets) ⌝ }
     requires hash { ⌜ h ≡ bucket-of (row-at (now sets) w n) (length (now heads)) ⌝ }
     requires room { ⌜ (n * w + w ≤ length (now sets)) × (h < length (now heads)) × (n ≤ length (now links)) × (n ≤ length (now buckets)) ⌝ }
@@ -70,7 +78,14 @@ fn find(sets: &[u32], w: usize, n: usize, h: u32, heads: &[u32], links: &[u32], 
 }
 
 // The number of the row before row n that is the same set; where there is none, row n is interned.
-pub fn intern(sets: &[u32], w: usize, n: usize, heads: &mut [u32], links: &mut [u32], buckets: &mut [u32]) -> Option<usize>
+pub fn intern(
+    sets: &[u32],
+    w: usize,
+    n: usize,
+    heads: &mut [u32],
+    links: &mut [u32],
+    buckets: &mut [u32],
+) -> Option<usize>
     requires interned { ⌜ Interned (now sets) w n (now heads) (now links) (now buckets) ⌝ }
     requires room { ⌜ (n * w + w ≤ length (now sets)) × (0 < length (now heads)) × (n < length (now links)) × (n < length (now buckets)) × (n < 2 ^ 32) ⌝ }
     ensures { λ r. ⌜ Cases r (Fresh (now (sets .entry)) w n (now (heads .exit)) (now (links .exit)) (now (buckets .exit))) (Again (now (sets .entry)) w n (now (heads .exit)) (now (links .exit)) (now (buckets .exit))) ⌝ }

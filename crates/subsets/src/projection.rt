@@ -13,19 +13,19 @@ ghost use Rattle.tables.specs.Cells.{entry, put-entry, accepts};
 ghost use Rattle.subsets.specs.Bitrows.{row-at, member, Below};
 ghost use Rattle.subsets.specs.Dead.{lives};
 ghost use Rattle.subsets.specs.Projection.{step-of, start-of, says-of, Posed, Room, Found, Ready, Further, Excess, words, Projected};
-use tables::cells::Class;
-use tables::cells::Table;
-use tables::cells::place;
-use tables::cells::put;
-use words::bits::Set;
-use words::bits::has_bit;
-use words::bits::with_bit;
-use words::bits::without_bit;
 use crate::bitrows::clear;
 use crate::bitrows::meets;
 use crate::intern::intern;
 use crate::successors::follow;
 use crate::successors::put_live;
+use tables::cells::Class;
+use tables::cells::Table;
+use tables::cells::get;
+use tables::cells::put;
+use words::bits::Set;
+use words::bits::has_bit;
+use words::bits::with_bit;
+use words::bits::without_bit;
 
 // What is projected: a table of which `dead` is the dead class, the bit x, the classes that accept once x is completed, and how many sets of w words may be found.
 #[derive(Clone, Copy)]
@@ -39,16 +39,6 @@ struct Projection<'a, 'b> {
     w: usize,
 }
 
-// The class to which column a leads from class q, in memory for `most` rows.
-fn get(rows: &[u32], most: usize, width: usize, q: Class, a: u32) -> Class
-    requires { ⌜ most * width ≤ length (now rows) ⌝ ∗ ⌜ q .0 < most ⌝ ∗ ⌜ a < width ⌝ }
-    ensures { λ r. ⌜ r .0 ≡ entry (now (rows .entry)) width (q .0) a ⌝ }
-{
-    let from = q.0 as usize * width;
-    let row = &rows[from..from + width];
-    Class(row[place(a)])
-}
-
 // Notes whether set n accepts: whether one of its classes is completed.
 fn mark(p: &Projection, sets: &[u32], accept: &mut [u32], n: usize)
     requires posed { ⌜ Posed (now p) ⌝ }
@@ -58,7 +48,11 @@ fn mark(p: &Projection, sets: &[u32], accept: &mut [u32], n: usize)
     ensures kept { λ _. ⌜ ((j : ℕ) → j < n → getD (now (accept .exit)) j 0 ≡ getD (now (accept .entry)) j 0) ⌝ }
 {
     let from = n * p.w;
-    accept[n] = if meets(&sets[from..from + p.w], p.completed) { 1 } else { 0 };
+    accept[n] = if meets(&sets[from..from + p.w], p.completed) {
+        1
+    } else {
+        0
+    };
 }
 
 // Row i at a column with bit x: leads where it leads without, and that is written already.
@@ -68,7 +62,13 @@ fn copy(p: &Projection, rows: &mut [u32], i: usize, a: u32)
     requires place { ⌜ (i < now p .most) × (a < now p .t .width) ⌝ }
     ensures { λ _. ⌜ now (rows .exit) ≡ put-entry (now (rows .entry)) (now (p .entry) .t .width) i a (entry (now (rows .entry)) (now (p .entry) .t .width) i (put-bit (now (p .entry) .x .0) false a)) ⌝ }
 {
-    let to = get(rows, p.most, p.t.width, Class(i as u32), without_bit(a, p.x));
+    let to = get(
+        rows,
+        p.most,
+        p.t.width,
+        Class(i as u32),
+        without_bit(a, p.x),
+    );
     put(rows, p.most, p.t.width, Class(i as u32), a, to);
 }
 
@@ -86,7 +86,18 @@ fn next_set(p: &Projection, sets: &mut [u32], n: usize, i: usize, a: u32)
 }
 
 // Row i at column a, a column without bit x: works the set out, and numbers it where it is new. None where it is one too many.
-fn work_out(p: &Projection, rows: &mut [u32], accept: &mut [u32], sets: &mut [u32], heads: &mut [u32], links: &mut [u32], buckets: &mut [u32], n: usize, i: usize, a: u32) -> Option<usize>
+fn work_out(
+    p: &Projection,
+    rows: &mut [u32],
+    accept: &mut [u32],
+    sets: &mut [u32],
+    heads: &mut [u32],
+    links: &mut [u32],
+    buckets: &mut [u32],
+    n: usize,
+    i: usize,
+    a: u32,
+) -> Option<usize>
     requires ready { ⌜ Ready (now p) (now rows) (now accept) (now sets) (now heads) (now links) (now buckets) n i a ⌝ }
     requires without { ⌜ bit (now p .x .0) a ≡ false ⌝ }
     ensures { λ r. ⌜ Cases r (Excess (now (p .entry))) (λ m. Further (now (p .entry)) (now (rows .exit)) (now (accept .exit)) (now (sets .exit)) (now (heads .exit)) (now (links .exit)) (now (buckets .exit)) n m i (a + 1)) ⌝ }
@@ -109,7 +120,18 @@ fn work_out(p: &Projection, rows: &mut [u32], accept: &mut [u32], sets: &mut [u3
 }
 
 // Row i at column a.
-fn column(p: &Projection, rows: &mut [u32], accept: &mut [u32], sets: &mut [u32], heads: &mut [u32], links: &mut [u32], buckets: &mut [u32], n: usize, i: usize, a: u32) -> Option<usize>
+fn column(
+    p: &Projection,
+    rows: &mut [u32],
+    accept: &mut [u32],
+    sets: &mut [u32],
+    heads: &mut [u32],
+    links: &mut [u32],
+    buckets: &mut [u32],
+    n: usize,
+    i: usize,
+    a: u32,
+) -> Option<usize>
     requires { ⌜ Ready (now p) (now rows) (now accept) (now sets) (now heads) (now links) (now buckets) n i a ⌝ }
     ensures { λ r. ⌜ Cases r (Excess (now (p .entry))) (λ m. Further (now (p .entry)) (now (rows .exit)) (now (accept .exit)) (now (sets .exit)) (now (heads .exit)) (now (links .exit)) (now (buckets .exit)) n m i (a + 1)) ⌝ }
 {
@@ -121,7 +143,17 @@ fn column(p: &Projection, rows: &mut [u32], accept: &mut [u32], sets: &mut [u32]
 }
 
 // All columns of row i.
-fn row(p: &Projection, rows: &mut [u32], accept: &mut [u32], sets: &mut [u32], heads: &mut [u32], links: &mut [u32], buckets: &mut [u32], n: usize, i: usize) -> Option<usize>
+fn row(
+    p: &Projection,
+    rows: &mut [u32],
+    accept: &mut [u32],
+    sets: &mut [u32],
+    heads: &mut [u32],
+    links: &mut [u32],
+    buckets: &mut [u32],
+    n: usize,
+    i: usize,
+) -> Option<usize>
     requires { ⌜ Ready (now p) (now rows) (now accept) (now sets) (now heads) (now links) (now buckets) n i 0 ⌝ }
     ensures { λ r. ⌜ Cases r (Excess (now (p .entry))) (λ m. Further (now (p .entry)) (now (rows .exit)) (now (accept .exit)) (now (sets .exit)) (now (heads .exit)) (now (links .exit)) (now (buckets .exit)) n m (i + 1) 0) ⌝ }
 {
@@ -147,7 +179,14 @@ fn start_set(p: &Projection, sets: &mut [u32])
 }
 
 // The start alone is found.
-fn begin(p: &Projection, accept: &mut [u32], sets: &mut [u32], heads: &mut [u32], links: &mut [u32], buckets: &mut [u32])
+fn begin(
+    p: &Projection,
+    accept: &mut [u32],
+    sets: &mut [u32],
+    heads: &mut [u32],
+    links: &mut [u32],
+    buckets: &mut [u32],
+)
     requires posed { ⌜ Posed (now p) ⌝ }
     requires room { ⌜ (0 < length (now accept)) × (now p .w ≤ length (now sets)) × (0 < length (now heads)) × (0 < length (now links)) × (0 < length (now buckets)) ⌝ }
     ensures { λ _. ⌜ ((rows : List ℕ) → Found (now (p .entry)) rows (now (accept .exit)) (now (sets .exit)) (now (heads .exit)) (now (links .exit)) (now (buckets .exit)) 1 0 0) ⌝ }
@@ -158,7 +197,15 @@ fn begin(p: &Projection, accept: &mut [u32], sets: &mut [u32], heads: &mut [u32]
 }
 
 // From the start on, row by row until all sets found have their rows.
-fn search(p: &Projection, rows: &mut [u32], accept: &mut [u32], sets: &mut [u32], heads: &mut [u32], links: &mut [u32], buckets: &mut [u32]) -> Option<usize>
+fn search(
+    p: &Projection,
+    rows: &mut [u32],
+    accept: &mut [u32],
+    sets: &mut [u32],
+    heads: &mut [u32],
+    links: &mut [u32],
+    buckets: &mut [u32],
+) -> Option<usize>
     requires posed { ⌜ Posed (now p) ⌝ }
     requires room { ⌜ Room (now p) (now rows) (now accept) (now sets) (now heads) (now links) (now buckets) ⌝ }
     ensures { λ r. ⌜ Cases r (Excess (now (p .entry))) (λ n. Found (now (p .entry)) (now (rows .exit)) (now (accept .exit)) (now (sets .exit)) (now (heads .exit)) (now (links .exit)) (now (buckets .exit)) n n 0) ⌝ }
@@ -178,7 +225,20 @@ fn search(p: &Projection, rows: &mut [u32], accept: &mut [u32], sets: &mut [u32]
 
 // The sets that are reached from the start are numbered as they are found, row by row and column by column, and row i of `sets` is set i; None where there are more than `most`.
 // Row i of the table is written once row i of `sets` is known. The set that follows is written behind the last one, and stays there if it is new.
-pub fn subsets(t: Table, k: u32, x: Set, dead: usize, completed: &[u32], most: usize, rows: &mut [u32], accept: &mut [u32], sets: &mut [u32], heads: &mut [u32], links: &mut [u32], buckets: &mut [u32]) -> Option<usize>
+pub fn subsets(
+    t: Table,
+    k: u32,
+    x: Set,
+    dead: usize,
+    completed: &[u32],
+    most: usize,
+    rows: &mut [u32],
+    accept: &mut [u32],
+    sets: &mut [u32],
+    heads: &mut [u32],
+    links: &mut [u32],
+    buckets: &mut [u32],
+) -> Option<usize>
     requires columns { ⌜ (t .width ≡ 2 ^ k) × (k ≤ 12) × (x .0 < k) ⌝ }
     requires classes { ⌜ (0 < t .classes) × (t .classes ≤ most) × (most < 2 ^ 32) × (t .classes ≤ length (now completed)) ⌝ }
     requires table { ⌜ (most * 2 ^ k ≤ length (now rows)) × (most ≤ length (now accept)) × ((most + 1) * words (t .classes) ≤ length (now sets)) ⌝ }
@@ -186,6 +246,14 @@ pub fn subsets(t: Table, k: u32, x: Set, dead: usize, completed: &[u32], most: u
     ensures { λ r. ⌜ Cases r (Too-many k (step-set (t .entry .classes) (entry (now (t .entry .rows)) (t .entry .width)) (lives (t .entry .classes) dead) (x .0)) (start-set (lives (t .entry .classes) dead)) most) (Projected k (t .entry .classes) (entry (now (t .entry .rows)) (t .entry .width)) dead (x .0) (accepts (now (completed .entry))) most (now (rows .exit)) (now (accept .exit)) (now (sets .exit))) ⌝ }
 {
     let w = (t.classes + 31) / 32;
-    let p = Projection { t, k, x, dead, completed, most, w };
+    let p = Projection {
+        t,
+        k,
+        x,
+        dead,
+        completed,
+        most,
+        w,
+    };
     search(&p, rows, accept, sets, heads, links, buckets)
 }

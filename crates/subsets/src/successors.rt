@@ -6,10 +6,10 @@ ghost use Rattle.tables.specs.Cells.{entry};
 ghost use Rattle.subsets.specs.Dead.{lives};
 ghost use Rattle.subsets.specs.Bitrows.{has, row-at, member, Adds, Some-bit, Bits-below, Below};
 ghost use Rattle.subsets.specs.Successors.{Leads, Successors};
-use tables::cells::Class;
-use tables::cells::Table;
 use crate::bitrows::clear;
 use crate::bitrows::insert;
+use tables::cells::Class;
+use tables::cells::Table;
 
 // Puts class r into a set, unless it is the dead one.
 pub fn put_live(row: &mut [u32], r: Class, dead: usize)
@@ -52,7 +52,16 @@ fn follow_word(t: Table, row: &mut [u32], word: u32, from: usize, a: u32, b: u32
 }
 
 // Writes the set of the live classes to which columns a and b lead from the classes of row i into row `to`; the rows before it stay.
-pub fn follow(t: Table, sets: &mut [u32], w: usize, i: usize, to: usize, a: u32, b: u32, dead: usize)
+pub fn follow(
+    t: Table,
+    sets: &mut [u32],
+    w: usize,
+    i: usize,
+    to: usize,
+    a: u32,
+    b: u32,
+    dead: usize,
+)
     requires order { ⌜ i < to ⌝ }
     requires inside { ⌜ Below (t .classes) (member (now sets) w i) ⌝ }
     requires columns { ⌜ a < t .width ⌝ ∗ ⌜ b < t .width ⌝ }

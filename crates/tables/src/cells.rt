@@ -49,6 +49,16 @@ impl Table<'_> {
     }
 }
 
+// The class to which column a leads from class q, of a table that is being written, in memory for `most` rows.
+pub fn get(rows: &[u32], most: usize, width: usize, q: Class, a: u32) -> Class
+    requires { ⌜ most * width ≤ length (now rows) ⌝ ∗ ⌜ q .0 < most ⌝ ∗ ⌜ a < width ⌝ }
+    ensures { λ r. ⌜ r .0 ≡ entry (now (rows .entry)) width (q .0) a ⌝ }
+{
+    let from = q.0 as usize * width;
+    let row = &rows[from..from + width];
+    Class(row[place(a)])
+}
+
 // Writes the class to which column a leads from class q, in memory for `most` rows.
 pub fn put(rows: &mut [u32], most: usize, width: usize, q: Class, a: u32, to: Class)
     requires { ⌜ most * width ≤ length (now rows) ⌝ ∗ ⌜ q .0 < most ⌝ ∗ ⌜ a < width ⌝ }

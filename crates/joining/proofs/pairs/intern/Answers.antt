@@ -1,14 +1,9 @@
-use lib.ListN.{length}
 use native.Mathlib.Omega.{arith}
-use borrow.Author.Needs.{needs}
-use Rattle.joining.proofs.PairsLaws.{place-fits, interned-new}
+use Rattle.joining.proofs.PairsLaws.{interned-old, interned-new}
 use Rattle.joining.proofs.pairs.intern.Needs as need
 
-pub offset-index-x : need.offset-index-x
-offset-index-x c = let f = place-fits (c .args .m) (c .args .x) (c .args .y) (length (c .args .index .now)) (omega arith) (omega arith) (omega arith) in search needs
-
-pub index-index-x : need.index-index-x
-index-index-x c = place-fits (c .args .m) (c .args .x) (c .args .y) (length (c .args .index .now)) (omega arith) (omega arith) (omega arith)
+pub returns-in-Some : need.returns-in-Some
+returns-in-Some c = interned-old (c .in-Some .i) (c .pre .pairs) (c .in-Some .ensures tt)
 
 pub returns-in-None : need.returns-in-None
-returns-in-None c = interned-new (c .pre .pairs) (c .pre .room) (c .in-None .ensures tt) (omega arith) (omega arith) (omega arith)
+returns-in-None c = interned-new (c .note-pair .ensures .numbered) (c .note-pair .ensures .noted) (c .note-pair .ensures .kept)

@@ -15,6 +15,7 @@ loop-j-again c =
     below-more _ _
     (λ i h. (let ne : i ≢ c .loop-j .j = omega arith in rw getD-set-other (c .loop-j .inv i h)))
     (let lt : c .loop-j .j < length (c .loop-j .accept) = omega arith in
-     rw getD-set-same (elim (c .if-ends .came) [
-         then-ends w ↦ ap (λ v. eqb v 1) (w .accept-is) ∙ sym (w .if-ends .taken) ∙ c .ends .ensures
-       | else-ends w ↦ ap (λ v. eqb v 1) (w .accept-is) ∙ sym (w .if-ends .left) ∙ c .ends .ensures ]))
+    rw getD-set-same (elim (c .if-ends .came) [
+      | then-ends w ↦ ap (λ v. eqb v 1) (w .accept-is) ∙ sym (w .if-ends .taken) ∙ c .ends .ensures
+      | else-ends w ↦ ap (λ v. eqb v 1) (w .accept-is) ∙ sym (w .if-ends .left) ∙ c .ends .ensures
+    ]))

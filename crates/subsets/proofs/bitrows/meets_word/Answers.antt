@@ -41,8 +41,10 @@ pub loop-left-again : need.loop-left-again
 loop-left-again c = (
   bits-below-later (length (c .args .accept .now)) (c .loop-left .q) (c .loop-left .left) (c .loop-left .inv .0),
   omega arith,
-  (λ s. c .loop-left .inv .2 .0 (some-bit-later (λ q. accepts (c .args .accept .now) q ≡ true) (c .loop-left .q) (c .loop-left .left) s),
-    λ s. passed c (c .loop-left .inv .2 .1 s)),
+  (
+    λ s. c .loop-left .inv .2 .0 (some-bit-later (λ q. accepts (c .args .accept .now) q ≡ true) (c .loop-left .q) (c .loop-left .left) s),
+    λ s. passed c (c .loop-left .inv .2 .1 s),
+  ),
 )
 
 pub returns : need.returns

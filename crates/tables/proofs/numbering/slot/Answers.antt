@@ -1,7 +1,7 @@
 use mathlib.Core.Path.{refl}
 use native.Mathlib.Omega.{arith}
-use Rattle.product.proofs.NumberingLaws.{slot-fits}
-use Rattle.product.proofs.numbering.slot.Needs as need
+use Rattle.tables.proofs.NumberingLaws.{slot-fits}
+use Rattle.tables.proofs.numbering.slot.Needs as need
 
 pub mul-result : need.mul-result
 mul-result c = omega (arith, slot-fits (c .pre .0) (c .pre .1 .0))

@@ -11,8 +11,8 @@ ghost use Prim.Native.Nat.{ℕ, _+_, _*_, _^_, _<_, _≤_};
 ghost use lib.ListN.{length};
 ghost use Rattle.std.specs.Options.{Cases};
 ghost use Rattle.automata.specs.Product.{pair};
-ghost use Rattle.product.specs.Numbering.{pair-at, Number-of, No-number, Numbered};
-use tables::cells::Class;
+ghost use Rattle.tables.specs.Numbering.{pair-at, Number-of, No-number, Numbered};
+use crate::cells::Class;
 
 // How many classes there are on the left and on the right.
 #[derive(Clone, Copy)]

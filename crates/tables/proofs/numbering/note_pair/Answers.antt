@@ -1,6 +1,6 @@
 use native.Mathlib.Omega.{arith}
-use Rattle.product.proofs.NumberingLaws.{noted, noted-here, noted-kept}
-use Rattle.product.proofs.numbering.note_pair.Needs as need
+use Rattle.tables.proofs.NumberingLaws.{noted, noted-here, noted-kept}
+use Rattle.tables.proofs.numbering.note_pair.Needs as need
 
 pub returns : need.returns
 returns c =

@@ -11,7 +11,7 @@ use Rattle.std.proofs.shelf.Bits.{mul-add-lt}
 use Rattle.std.proofs.shelf.Lists.{getD-set-same, getD-set-other}
 use Rattle.automata.specs.Product.{pair}
 use Rattle.automata.proofs.Regular.{cell-row, cell-column}
-use Rattle.product.specs.Numbering.{pair-at, No-number, Numbered}
+use Rattle.tables.specs.Numbering.{pair-at, No-number, Numbered}
 
 -- a pair's place lies within the index
 pub slot-fits : {m n p q : ℕ} → p < m → q < n → p * n + q < m * n

@@ -1,7 +1,7 @@
 use native.Mathlib.Omega.{arith}
 use borrow.Author.Needs.{needs}
 use Rattle.tables.proofs.CellsLaws.{row-fits, column-below, row-entry}
-use Rattle.subsets.proofs.projection.get.Needs as need
+use Rattle.tables.proofs.cells.get.Needs as need
 
 pub offset-rows-from : need.offset-rows-from
 offset-rows-from c = let p = row-fits (c .args .q .0) (c .args .most) (c .args .width) (omega arith) in search needs
