@@ -1,1 +1,4 @@
 pub mod WorkingLaws
+pub mod CombineLaws
+pub mod ProjectLaws
+pub mod AnswerLaws

@@ -63,17 +63,7 @@ pub fn cut_scratch(words: &mut [u32], width: usize, most: usize) -> Scratch<'_>
     let (e, rest) = rest.split_at_mut(n);
     let (f, rest) = rest.split_at_mut(n);
     let (g, _) = rest.split_at_mut(n);
-    Scratch {
-        states,
-        index,
-        a,
-        b,
-        c,
-        d,
-        e,
-        f,
-        g,
-    }
+    Scratch { states, index, a, b, c, d, e, f, g }
 }
 
 // One table in free memory, and what is free behind it.
@@ -93,4 +83,28 @@ pub fn cut_slot(free: &mut [u32], width: usize, most: usize) -> Slot<'_>
     let (rows, rest) = free.split_at_mut(most * width);
     let (accept, rest) = rest.split_at_mut(most);
     Slot { rows, accept, rest }
+}
+
+// The whole work memory: the table of the claim, free slots for those of its parts, scratch, and words for pairs or for sets of classes.
+#[derive(Drop)]
+pub struct Work<'a> {
+    pub rows: &'a mut [u32],
+    pub accept: &'a mut [u32],
+    pub free: &'a mut [u32],
+    pub scratch: &'a mut [u32],
+    pub pairs: &'a mut [u32],
+}
+
+pub fn cut_work(words: &mut [u32], width: usize, most: usize) -> Work<'_>
+    requires { ⌜ (8192 + (most + 1) * (16 * width + (256 + most)) ≤ length (now words)) × (most < 2 ^ 32) × (0 < most) × (width ≤ 4096) × (0 < width) ⌝ }
+    ensures rows { λ r. ⌜ length (now (r .rows)) ≡ most * width ⌝ }
+    ensures accept { λ r. ⌜ length (now (r .accept)) ≡ most ⌝ }
+    ensures free { λ r. ⌜ length (now (r .free)) ≡ 9 * (most * width + most) ⌝ }
+    ensures scratch { λ r. ⌜ length (now (r .scratch)) ≡ 12 * width + 96 * (most + 1) ⌝ }
+    ensures pairs { λ r. ⌜ (most + 1) * most ≤ length (now (r .pairs)) ⌝ }
+{
+    let Slot { rows, accept, rest } = cut_slot(words, width, most);
+    let (free, rest) = rest.split_at_mut(9 * (most * width + most));
+    let (scratch, pairs) = rest.split_at_mut(12 * width + 96 * (most + 1));
+    Work { rows, accept, free, scratch, pairs }
 }
