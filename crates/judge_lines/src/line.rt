@@ -1,4 +1,4 @@
-// What stands on a line: `most hexbytes`, with one space between them. `-` stands for no bytes.
+// What stands on a line: `most hexbytes`, or `most hexbytes outwords`, with one space between them. `-` stands for no bytes.
 ghost use mathlib.Core.Path.{_≡_};
 ghost use mathlib.Core.List.{_∷_, _++_};
 ghost use Prim.Native.Nat.{ℕ, _<_, _≤_};
@@ -14,8 +14,9 @@ use std::alloc::Global;
 pub enum Fault<'a> {
     Empty,
     OneField(&'a [u8]),
-    ThirdField(&'a [u8]),
+    FourthField(&'a [u8]),
     Most(&'a [u8]),
+    OutWords(&'a [u8]),
     OddDigits(usize),
     NoPair(u8, u8),
     Memory,
@@ -35,31 +36,55 @@ fn field_end(text: &[u8]) -> usize
     text.len()
 }
 
-// The two fields of a line.
-pub fn fields(line: &[u8]) -> Result<(&[u8], &[u8]), Fault<'_>>
-    ensures { λ r. ⌜ ByOk r (λ p. now (p .0) ++ (32 ∷ now (p .1)) ≡ now (line .entry)) (λ _. Unit {0}) ⌝ }
+// The text before the first space, and the text behind that, if there is a space.
+fn split_field(text: &[u8]) -> (&[u8], Option<&[u8]>)
+    ensures { λ r. ⌜ Cases (r .1) (now (r .0) ≡ now (text .entry)) (λ rest. now (r .0) ++ (32 ∷ now rest) ≡ now (text .entry)) ⌝ }
 {
+    let end = field_end(text);
+    if end == text.len() {
+        return (text, None);
+    }
+    (&text[0..end], Some(&text[end + 1..]))
+}
+
+// The two or three fields of a line.
+#[derive(Drop)]
+pub struct Fields<'a> {
+    pub most: &'a [u8],
+    pub bytes: &'a [u8],
+    pub out: Option<&'a [u8]>,
+}
+
+pub fn read_fields(line: &[u8]) -> Result<Fields<'_>, Fault<'_>> {
     if line.is_empty() {
         return Err(Fault::Empty);
     }
-    let first = field_end(line);
-    if first == line.len() {
+    let (most, Some(rest)) = split_field(line) else {
         return Err(Fault::OneField(line));
-    }
-    let most = &line[0..first];
-    let rest = &line[first + 1..];
-    if rest.is_empty() {
+    };
+    let (bytes, more) = split_field(rest);
+    if bytes.is_empty() {
         return Err(Fault::OneField(most));
     }
-    let second = field_end(rest);
-    if second < rest.len() {
-        return Err(Fault::ThirdField(&rest[second + 1..]));
+    let Some(third) = more else {
+        return Ok(Fields {
+            most,
+            bytes,
+            out: None,
+        });
+    };
+    match split_field(third) {
+        (out, None) => Ok(Fields {
+            most,
+            bytes,
+            out: Some(out),
+        }),
+        (_, Some(fourth)) => Err(Fault::FourthField(fourth)),
     }
-    Ok((most, rest))
 }
 
 // The number that decimal digits write, if it is below 2^32.
-pub fn read_most(digits: &[u8]) -> Option<u32>
+pub fn read_number(digits: &[u8]) -> Option<u32>
     ensures { λ r. ⌜ Cases r (Unit {0}) (λ n. Decimal 0 (now (digits .entry)) n) ⌝ }
 {
     if digits.is_empty() {

@@ -22,9 +22,11 @@ module _ (k n W : ℕ) (wide : W ≡ 2 ^ k) (c d : C) (m m₁ : ℕ) (rows accep
 
   module _ (o : ℕ) (lefts rights prows paccept : List ℕ) (few : o ≤ n) (x : Explored k (step-pair (entry rows W) (entry rows₁ W)) (pair 0 0) o (pair-at lefts rights) (entry prows W)) (both : (i : ℕ) → i < o → accepts paccept i ≡ (accepts accept (getD lefts i 0) && accepts accept₁ (getD rights i 0))) where
     pub conjoin-stands : (cls firsts : List ℕ) (r : ℕ) (rows′ accept′ : List ℕ) → Joined k o (entry prows W) (accepts paccept) (λ q. getD cls q 0) (λ i. getD firsts i 0) r → Quotient k W prows paccept cls firsts r rows′ accept′ → r ≤ o → Stands k n (and1 c d) rows′ accept′ r
-    conjoin-stands cls firsts r rows′ accept′ j q h = (omega arith,
-        worked-and k n c d m m₁ (entry rows (2 ^ k)) (entry rows₁ (2 ^ k)) (accepts accept) (accepts accept₁) (t .1) (t₁ .1) o (pair-at lefts rights) (entry prows (2 ^ k)) (accepts paccept)
+    conjoin-stands cls firsts r rows′ accept′ j q h = (
+      omega arith,
+      worked-and k n c d m m₁ (entry rows (2 ^ k)) (entry rows₁ (2 ^ k)) (accepts accept) (accepts accept₁) (t .1) (t₁ .1) o (pair-at lefts rights) (entry prows (2 ^ k)) (accepts paccept)
           (subst (λ w. Explored k (step-pair (entry rows w) (entry rows₁ w)) (pair 0 0) o (pair-at lefts rights) (entry prows w)) wide x) few both
           (λ q. getD cls q 0) (λ i. getD firsts i 0) r (subst (λ w. Joined k o (entry prows w) (accepts paccept) (λ q. getD cls q 0) (λ i. getD firsts i 0) r) wide j)
           (entry rows′ (2 ^ k)) (accepts accept′)
-          record { steps = subst (λ w. (i b : ℕ) → i < r → b < 2 ^ k → entry rows′ (2 ^ k) i b ≡ getD cls (entry prows w (getD firsts i 0) b) 0) wide (q .leads); accepts = q .ends })
+          record { steps = subst (λ w. (i b : ℕ) → i < r → b < 2 ^ k → entry rows′ (2 ^ k) i b ≡ getD cls (entry prows w (getD firsts i 0) b) 0) wide (q .leads); accepts = q .ends },
+    )

@@ -35,17 +35,19 @@ module _ (k n W : ℕ) (wide : W ≡ 2 ^ k) (c : C) (m : ℕ) (rows accept : Lis
 
     pub project-many : Too-many k (step-set m (entry rows W) (lives m dead) x) (start-set (lives m dead)) n → Fits k n (some x c) → ⊥
     project-many y = many-some k n x c m (entry rows (2 ^ k)) (accepts accept) (t .1) h (lives m dead) (lives-below m dead) live-wide
-      (subst (λ w. Too-many k (step-set m (entry rows w) (lives m dead) x) (start-set (lives m dead)) n) wide y)
+        (subst (λ w. Too-many k (step-set m (entry rows w) (lives m dead) x) (start-set (lives m dead)) n) wide y)
 
     module _ (completed : List ℕ) (beyond : (q : ℕ) → q < m → (accepts completed q ≡ true) ↔ Completes x (entry rows W) (accepts accept) q) (o : ℕ) (srows saccept sets : List ℕ) (p : Projected k m (entry rows W) dead x (accepts completed) n srows saccept sets o) where
       p-wide : Projected k m (entry rows (2 ^ k)) dead x (accepts completed) n srows saccept sets o
       p-wide = subst (λ w. Projected k m (entry rows w) dead x (accepts completed) n srows saccept sets o) wide p
 
       pub project-stands : (cls firsts : List ℕ) (r : ℕ) (rows′ accept′ : List ℕ) → Joined k o (entry srows W) (accepts saccept) (λ q. getD cls q 0) (λ i. getD firsts i 0) r → Quotient k W srows saccept cls firsts r rows′ accept′ → r ≤ o → Stands k n (some x c) rows′ accept′ r
-      project-stands cls firsts r rows′ accept′ j q few = (omega (arith, p .few),
-          worked-some k n x c m (entry rows (2 ^ k)) (accepts accept) (t .1) h (lives m dead) (lives-below m dead) live-wide
+      project-stands cls firsts r rows′ accept′ j q few = (
+        omega (arith, p .few),
+        worked-some k n x c m (entry rows (2 ^ k)) (accepts accept) (t .1) h (lives m dead) (lives-below m dead) live-wide
             o (member sets (words m)) (entry srows (2 ^ k)) (accepts completed) (accepts saccept) (p-wide .explored) (p .few)
             (subst (λ w. (q : ℕ) → q < m → (accepts completed q ≡ true) ↔ Completes x (entry rows w) (accepts accept) q) wide beyond) (p .accepted)
             (λ q. getD cls q 0) (λ i. getD firsts i 0) r (subst (λ w. Joined k o (entry srows w) (accepts saccept) (λ q. getD cls q 0) (λ i. getD firsts i 0) r) wide j)
             (entry rows′ (2 ^ k)) (accepts accept′)
-            record { steps = subst (λ w. (i b : ℕ) → i < r → b < 2 ^ k → entry rows′ (2 ^ k) i b ≡ getD cls (entry srows w (getD firsts i 0) b) 0) wide (q .leads); accepts = q .ends })
+            record { steps = subst (λ w. (i b : ℕ) → i < r → b < 2 ^ k → entry rows′ (2 ^ k) i b ≡ getD cls (entry srows w (getD firsts i 0) b) 0) wide (q .leads); accepts = q .ends },
+      )

@@ -18,6 +18,7 @@ pub record First (k : ℕ) (c : C) (w : Word) : Type 0 where
 -- the two first words, of lengths a and b
 abbrev pub First-words : ℕ → C → ℕ → ℕ → Word → Word → Type 0
 First-words k c a b u v = First k c u × First k (not1 c) v × (a ≡ length u) × (b ≡ length v)
+
 abbrev pub Answered : ℕ → C → List ℕ → List ℕ → Judged → Type 0
 Answered k c o o′ Always = ((w : Word) → Columns k w → Of c w) × (o′ ≡ o)
 Answered k c o o′ Never = ((w : Word) → Columns k w → Of c w → ⊥) × (o′ ≡ o)

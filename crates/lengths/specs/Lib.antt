@@ -3,3 +3,4 @@ pub mod Room
 pub mod Working
 pub mod Answer
 pub mod Says
+pub mod Export

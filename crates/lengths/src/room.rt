@@ -63,7 +63,17 @@ pub fn cut_scratch(words: &mut [u32], width: usize, most: usize) -> Scratch<'_>
     let (e, rest) = rest.split_at_mut(n);
     let (f, rest) = rest.split_at_mut(n);
     let (g, _) = rest.split_at_mut(n);
-    Scratch { states, index, a, b, c, d, e, f, g }
+    Scratch {
+        states,
+        index,
+        a,
+        b,
+        c,
+        d,
+        e,
+        f,
+        g,
+    }
 }
 
 // One table in free memory, and what is free behind it.
@@ -106,5 +116,11 @@ pub fn cut_work(words: &mut [u32], width: usize, most: usize) -> Work<'_>
     let Slot { rows, accept, rest } = cut_slot(words, width, most);
     let (free, rest) = rest.split_at_mut(9 * (most * width + most));
     let (scratch, pairs) = rest.split_at_mut(12 * width + 96 * (most + 1));
-    Work { rows, accept, free, scratch, pairs }
+    Work {
+        rows,
+        accept,
+        free,
+        scratch,
+        pairs,
+    }
 }

@@ -1,7 +1,7 @@
 use Prim.Native.Nat.{ℕ, _<_, _^_}
 use lib.ListN.{length}
 use Rattle.judge_lines.specs.Line.{Decimal}
-use Rattle.judge_lines.proofs.line.read_most.Given as given
+use Rattle.judge_lines.proofs.line.read_number.Given as given
 
 -- what the digits that are left write from n on, all digits write
 abbrev pub Inv-loop-rest : given.InvT-loop-rest

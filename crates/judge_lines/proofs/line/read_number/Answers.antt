@@ -6,7 +6,7 @@ use borrow.Author.Needs.{needs}
 use lib.ListN.{length, getD, take, drop}
 use Rattle.claims.proofs.SignLaws.{back1}
 use Rattle.judge_lines.specs.Line.{Decimal, end-of, figure}
-use Rattle.judge_lines.proofs.line.read_most.Needs as need
+use Rattle.judge_lines.proofs.line.read_number.Needs as need
 
 -- one digit more
 step : (s : List ℕ) (n v m : ℕ) → 1 ≤ length s → 48 ≤ getD s 0 0 → getD s 0 0 ≤ 57 → getD s 0 0 - 48 ≡ v → Decimal (n * 10 + v) (take (length s - 1) (drop 1 s)) m → Decimal n s m
