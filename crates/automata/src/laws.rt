@@ -1,5 +1,6 @@
 // Theorems about all claims, each the contract of a function.
 ghost use Rattle.claims.specs.Laws.{Told, Finite};
+ghost use Rattle.automata.specs.EqualSets.{EqualSets};
 ghost use Rattle.automata.specs.Families.{Families};
 
 // It can be told of every claim and every word whether the claim holds of it.
@@ -19,6 +20,13 @@ pub fn finite_stands() -> bool
 // Every family of finite sets is some word's, as far as a claim can tell.
 pub fn families_stand() -> bool
     ensures { λ _. ⌜ Families ⌝ }
+{
+    true
+}
+
+// Of a claim without parts about one set twice there is one class.
+pub fn equal_sets_stand() -> bool
+    ensures { λ _. ⌜ EqualSets ⌝ }
 {
     true
 }

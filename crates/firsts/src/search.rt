@@ -98,7 +98,7 @@ fn follow_all(
     count
 }
 
-// Finds all classes, and returns how many there are.
+// Finds all classes, and returns how many there are. Memory, in words, for m classes: m each for queue, number, prev and via, which may hold anything.
 pub fn search(
     t: Table,
     k: u32,

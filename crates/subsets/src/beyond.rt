@@ -140,6 +140,7 @@ fn mark_behind(
     mark_comers(t, with_x, lists1, r, marks, queue, more)
 }
 
+// Scratch, in words, for m classes: m each for heads0, links0, heads1, links1 and queue. Any of them may hold anything.
 // Marks in `completed`, by 1, each class that is completed by columns in which at most set x has a place; those that are not have other numbers.
 pub fn beyond(
     t: Table,

@@ -32,7 +32,7 @@ fn is_dead(t: Table, q: Class) -> bool
     true
 }
 
-// The dead class, or the number of classes where there is none.
+// The dead class, or the number of classes where there is none. It takes no scratch.
 pub fn dead(t: Table, k: u32) -> usize
     requires wide { ⌜ t .width ≡ 2 ^ k ⌝ ∗ ⌜ k ≤ 12 ⌝ }
     requires few { ⌜ t .classes < 2 ^ 32 ⌝ }

@@ -225,6 +225,7 @@ fn search(
 
 // The sets that are reached from the start are numbered as they are found, row by row and column by column, and row i of `sets` is set i; None where there are more than `most`.
 // Row i of the table is written once row i of `sets` is known. The set that follows is written behind the last one, and stays there if it is new.
+// Scratch, in words, for n = most and m classes of the part: (n + 1) * ceil(m / 32) for sets, n + 1 each for links and buckets, and one or more for heads, better n + 1. Any of them may hold anything.
 pub fn subsets(
     t: Table,
     k: u32,
