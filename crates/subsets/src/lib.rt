@@ -1,7 +1,7 @@
 // The subset construction: the table of a claim under some, from that of its part.
 pub mod beyond;
-pub mod bitrows;
+mod bitrows;
 pub mod dead;
-pub mod intern;
+mod intern;
 pub mod projection;
-pub mod successors;
+mod successors;
