@@ -1,0 +1,2 @@
+-- Which words are a table.
+pub mod Checked
