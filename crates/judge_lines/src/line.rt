@@ -55,7 +55,9 @@ pub struct Fields<'a> {
     pub out: Option<&'a [u8]>,
 }
 
-pub fn read_fields(line: &[u8]) -> Result<Fields<'_>, Fault<'_>> {
+pub fn read_fields(line: &[u8]) -> Result<Fields<'_>, Fault<'_>>
+    ensures { λ r. ⌜ ByOk r (λ p. Cases (p .out) (now (p .most) ++ (32 ∷ now (p .bytes)) ≡ now (line .entry)) (λ o. now (p .most) ++ (32 ∷ (now (p .bytes) ++ (32 ∷ now o))) ≡ now (line .entry))) (λ _. Unit {0}) ⌝ }
+{
     if line.is_empty() {
         return Err(Fault::Empty);
     }
