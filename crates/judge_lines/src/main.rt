@@ -1,6 +1,8 @@
 // Judges claims: reads lines `most hexbytes`, or `most hexbytes outwords`, from standard input, and writes one answer a line.
 // `most` is the largest number of classes that may be told apart at a part, and `outwords` the number of words that the call gets for its two first words; without it there is room for any answer.
 // A line that is not of that form gets a message with its number, one that would take more than 256 MiB of work memory says so, and the run goes on.
+#![tactic(auto)]
+
 use lengths::judge::judge;
 use lengths::judged::Judged;
 use lines::line::{Fault, read_bytes, read_fields, read_number};

@@ -1,2 +1,4 @@
 // What stands on a line of the line tool: two or three fields, numbers and bytes.
+#![tactic(auto)]
+
 pub mod line;

@@ -1,3 +1,5 @@
 // The product of two tables.
+#![tactic(auto)]
+
 mod factors;
 pub mod pairs;

@@ -1,3 +1,5 @@
 // The subset construction: the table of a claim under some, from that of its part.
+#![tactic(auto)]
+
 pub mod projection;
 mod successors;

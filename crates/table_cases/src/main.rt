@@ -5,6 +5,8 @@
 //     C: exactly one column is 1. Classes 0, 1 and 2: none yet, one, more.
 //     D: class 0 leads to 1, and class 1 to 0 and 1.
 //     E: a 1 behind a 0. Classes 0, 2 and 1: none yet, a 0, both; so the classes are found in another order than that of their numbers.
+#![tactic(auto)]
+
 mod checked;
 mod combined;
 mod found;

@@ -1,4 +1,6 @@
 // Tables of classes in lent memory.
+#![tactic(auto)]
+
 pub mod cells;
 pub mod complement;
 pub mod numbering;

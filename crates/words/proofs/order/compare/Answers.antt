@@ -1,5 +1,6 @@
 use Rattle.std.proofs.Common.{◌≡◌, ℕ, ◌<◌, length, get_or, Ordering, Less as Lt, Equal, Greater, sym, arith}
 use Rattle.std.specs.Ordering.{MatchOrdering}
+use Rattle.std.proofs.lemmas.Cmp.{ranked}
 use Rattle.words.specs.Words.{Word}
 use Rattle.words.specs.Order.{Less, shorter}
 use Rattle.words.proofs.OrderLaws.{ordered, less-at, same-all}
@@ -18,10 +19,10 @@ by-column u v i Equal e h s n d = absurd (n d)
 by-column u v i Greater e h s n d = less-at v u i (sym e) (omega arith) (λ j g. sym (s j g)) d
 
 pub returns-then-u-v : goal.returns-then-u-v
-returns-then-u-v c = record { said = by_length c.args.u.now c.args.v.now c.cmp.result c.if-u-v.true c.cmp.ensures; ordered = ordered }
+returns-then-u-v c = record { said = by_length c.args.u.now c.args.v.now c.cmp.result c.if-u-v.true (ranked _ _ _ c.cmp.ensures); ordered = ordered }
 
 pub returns-then-i-u : goal.returns-then-i-u
 returns-then-i-u c = record { said = same-all c.args.u.now c.args.v.now c.loop-i.invariant.0 (λ j h. c.loop-i.invariant.2 j (omega arith)); ordered = ordered }
 
 pub returns-then-u-i : goal.returns-then-u-i
-returns-then-u-i c = record { said = by-column c.args.u.now c.args.v.now c.loop-i.i c.cmp-then-u-i.result c.loop-i.invariant.0 (omega arith) c.loop-i.invariant.2 c.if-u-i.true c.cmp-then-u-i.ensures; ordered = ordered }
+returns-then-u-i c = record { said = by-column c.args.u.now c.args.v.now c.loop-i.i c.cmp-then-u-i.result c.loop-i.invariant.0 (omega arith) c.loop-i.invariant.2 c.if-u-i.true (ranked _ _ _ c.cmp-then-u-i.ensures); ordered = ordered }
