@@ -8,17 +8,17 @@ use Rattle.bitsets.proofs.bitrows.meets.Goals as goal
 pub loop-z-init : goal.loop-z-init
 loop-z-init c s = some-below-none _ (has c.args.row.now) s
 
-pub meets-word-requires : goal.meets-word-requires
-meets-word-requires c = record { inside = word-bits c.args.row.now c.loop-z.z (omega arith) (length c.args.accept.now) c.requires.inside; small = omega arith }
+pub meets_word-requires : goal.meets_word-requires
+meets_word-requires c = record { inside = word-bits c.args.row.now c.loop-z.z (omega arith) (length c.args.accept.now) c.requires.inside; small = omega arith }
 
-pub returns-then-meets-word : goal.returns-then-meets-word
-returns-then-meets-word c =
-    (λ _. (let (q, h, e, p) = word-here c.args.row.now c.loop-z.z (omega arith) (λ q. accepts c.args.accept.now q ≡ true) (c.meets-word.ensures.0 c.if-meets-word.true) in (q, e, p)), λ _. refl)
+pub returns-then-meets_word : goal.returns-then-meets_word
+returns-then-meets_word c =
+    (λ _. (let (q, h, e, p) = word-here c.args.row.now c.loop-z.z (omega arith) (λ q. accepts c.args.accept.now q ≡ true) (c.meets_word.ensures.0 c.if-meets_word.true) in (q, e, p)), λ _. refl)
 
 pub loop-z-preserved : goal.loop-z-preserved
 loop-z-preserved c s = elim (word_split c.args.row.now c.loop-z.z (omega arith) (λ q. accepts c.args.accept.now q ≡ true) s) [
   | inl t ↦ c.loop-z.invariant t
-  | inr t ↦ false≢true (c.if-meets-word.ensures.1 t)
+  | inr t ↦ false≢true (c.if-meets_word.ensures.1 t)
 ]
 
 pub returns : goal.returns

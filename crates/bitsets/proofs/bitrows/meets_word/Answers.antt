@@ -19,8 +19,8 @@ bounds-accept-q c = let h = bits-below-now (length c.args.accept.now) c.loop-lef
 pub returns-then-accept-q-eq1 : goal.returns-then-accept-q-eq1
 returns-then-accept-q-eq1 c = (λ _. c.loop-left.invariant.2.0 (some-bit-now (λ q. accepts c.args.accept.now q ≡ true) c.loop-left.q c.loop-left.left c.if-left-eq1.true (eq-eqb _ 1 c.if-accept-q-eq1.true)), λ _. refl)
 
-pub overflow-add-q : goal.overflow-add-q
-overflow-add-q c = search rules
+pub overflow_add-q : goal.overflow_add-q
+overflow_add-q c = search rules
 
 -- the bit at hand is not set, or its class does not accept: what is said is said by the others
 passed : (c : goal.Joined-else-left-eq1) → Some-bit (λ q. accepts c.args.accept.now q ≡ true) c.loop-left.q c.loop-left.left → Some-bit (λ q. accepts c.args.accept.now q ≡ true) (c.loop-left.q + 1) (c.loop-left.left / 2)

@@ -15,11 +15,11 @@ loop-word-preserved c =
     let e = at_drop_more (hashed c.loop-word.h) xs i 0 c.loop-word-test.true in
     (omega arith, ap (λ h. hashed h (drop (i + 1) xs)) c.mix-h.ensures ∙ sym e ∙ c.loop-word.invariant.1)
 
-pub overflow-cast-result : goal.overflow-cast-result
-overflow-cast-result c = search rules
+pub overflow_cast-result : goal.overflow_cast-result
+overflow_cast-result c = search rules
 
-pub overflow-cast-result-2 : goal.overflow-cast-result-2
-overflow-cast-result-2 c = let h = mod-small c.loop-word.h c.args.n in search rules
+pub overflow_cast-result-2 : goal.overflow_cast-result-2
+overflow_cast-result-2 c = let h = mod-small c.loop-word.h c.args.n in search rules
 
 pub returns : goal.returns
 unfolding bucket-of

@@ -3,8 +3,8 @@ use Rattle.bitsets.specs.Intern.{mixed}
 use Rattle.bitsets.proofs.InternLaws.{mixed-below}
 use Rattle.bitsets.proofs.intern.mix.Goals as goal
 
-pub overflow-cast-result : goal.overflow-cast-result
-overflow-cast-result c = let h = mixed-below c.args.h c.args.x (omega arith) (omega arith) in search rules
+pub overflow_cast-result : goal.overflow_cast-result
+overflow_cast-result c = let h = mixed-below c.args.h c.args.x (omega arith) (omega arith) in search rules
 
 pub returns : goal.returns
 unfolding mixed

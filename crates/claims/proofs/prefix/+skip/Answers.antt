@@ -21,58 +21,58 @@ no-two k x y d r s e o p =
     let (a, b) = both-passed (ltb x k) (ltb y k) (subst T o h) in
     omega (arith, ltb→lt x k a, ltb→lt y k b))
 
-pub returns-in-err-sign : goal.returns-in-err-sign
-returns-in-err-sign t c = rw c.from-residual.ensures (no_sign c.args.k c.args.bytes.now c.in-err-sign.ensures)
+pub returns-in_err-sign : goal.returns-in_err-sign
+returns-in_err-sign t c = rw c.from_residual.ensures (no_sign c.args.k c.args.bytes.now c.in_err-sign.ensures)
 
-pub returns-in-err-more : goal.returns-in-err-more
-returns-in-err-more t c =
-    let e : 5 ∷ c.in-ok-sign.rest.now ≡ c.args.bytes.now = sign-is _ _ _ _ c.in-ok-sign.ensures c.in-And.is in
-    rw c.from-residual-in-err-more.ensures (no-first c.args.k c.in-ok-sign.rest.now c.args.bytes.now e c.in-err-more.ensures)
+pub returns-in_err-more-in-And : goal.returns-in_err-more-in-And
+returns-in_err-more-in-And t c =
+    let e : 5 ∷ c.in_ok-sign.rest.now ≡ c.args.bytes.now = sign-is _ _ _ _ c.in_ok-sign.ensures c.in-And.is in
+    rw c.from_residual-in_err-more-in-And.ensures (no-first c.args.k c.in_ok-sign.rest.now c.args.bytes.now e c.in_err-more-in-And.ensures)
 
 pub skip-requires-in-And-2 : goal.skip-requires-in-And-2
 skip-requires-in-And-2 t c =
-    let e : 5 ∷ c.in-ok-sign.rest.now ≡ c.args.bytes.now = sign-is _ _ _ _ c.in-ok-sign.ensures c.in-And.is in
+    let e : 5 ∷ c.in_ok-sign.rest.now ≡ c.args.bytes.now = sign-is _ _ _ _ c.in_ok-sign.ensures c.in-And.is in
     let l = ap length e in
-    let f = c.in-ok-more.ensures in
-    let a = shorter c.args.k f.0 c.in-ok-sign.rest.now c.in-ok-more.more.now f.1 in
+    let f = c.in_ok-more-in-And.ensures in
+    let a = shorter c.args.k f.0 c.in_ok-sign.rest.now c.in_ok-more-in-And.more.now f.1 in
     search rules
 
 pub returns-then-x-k : goal.returns-then-x-k
-returns-then-x-k t c = (single c.in-Single.x.0, record { rows = sign-is _ _ _ _ c.in-ok-sign.ensures c.in-Single.is; fine = lt→ltb _ _ c.if-x-k.true })
+returns-then-x-k t c = (single c.in-Single.x.0, record { rows = sign-is _ _ _ _ c.in_ok-sign.ensures c.in-Single.is; fine = lt→ltb _ _ c.if-x-k.true })
 
 pub returns-else-x-k : goal.returns-else-x-k
-returns-else-x-k t c = no_other _ (single c.in-Single.x.0) _ _ (sign-is _ _ _ _ c.in-ok-sign.ensures c.in-Single.is) (λ h. omega (arith, ltb→lt _ _ h))
+returns-else-x-k t c = no_other _ (single c.in-Single.x.0) _ _ (sign-is _ _ _ _ c.in_ok-sign.ensures c.in-Single.is) (λ h. omega (arith, ltb→lt _ _ h))
 
 pub returns-in-Not : goal.returns-in-Not
 returns-in-Not t c =
-    let e : 4 ∷ c.in-ok-sign.rest.now ≡ c.args.bytes.now = sign-is _ _ _ _ c.in-ok-sign.ensures c.in-Not.is in
+    let e : 4 ∷ c.in_ok-sign.rest.now ≡ c.args.bytes.now = sign-is _ _ _ _ c.in_ok-sign.ensures c.in-Not.is in
     lift _ _ _ _ (no-not _ _ _ e) (λ d t f. (not1 d, front-not _ _ _ _ _ e f)) c.skip.ensures
 
-pub returns-in-ok-more : goal.returns-in-ok-more
-returns-in-ok-more t c =
-    let e : 5 ∷ c.in-ok-sign.rest.now ≡ c.args.bytes.now = sign-is _ _ _ _ c.in-ok-sign.ensures c.in-And.is in
-    let (d, f) = c.in-ok-more.ensures in
+pub returns-in_ok-more-in-And : goal.returns-in_ok-more-in-And
+returns-in_ok-more-in-And t c =
+    let e : 5 ∷ c.in_ok-sign.rest.now ≡ c.args.bytes.now = sign-is _ _ _ _ c.in_ok-sign.ensures c.in-And.is in
+    let (d, f) = c.in_ok-more-in-And.ensures in
     let k = c.args.k in
-    let r = c.in-ok-sign.rest.now in
+    let r = c.in_ok-sign.rest.now in
     let s = c.args.bytes.now in
-    let m = c.in-ok-more.more.now in
+    let m = c.in_ok-more-in-And.more.now in
     lift k m s _ (no_second k d r s m e f) (λ d' t f'. (and1 d d', front-and k d d' r s m t e f f')) c.skip-in-And-2.ensures
 
 pub returns-then-x-k-2 : goal.returns-then-x-k-2
 returns-then-x-k-2 t c =
-    let e : 6 ∷ c.in-Some.x.0 ∷ c.in-ok-sign.rest.now ≡ c.args.bytes.now = sign-is _ _ _ _ c.in-ok-sign.ensures c.in-Some.is in
+    let e : 6 ∷ c.in-Some.x.0 ∷ c.in_ok-sign.rest.now ≡ c.args.bytes.now = sign-is _ _ _ _ c.in_ok-sign.ensures c.in-Some.is in
     lift _ _ _ _ (λ n. no-some _ _ _ _ e (λ l. n)) (λ d t f. (some _ d, front-some _ _ _ _ _ _ e (lt→ltb _ _ c.if-x-k-2.true) f)) c.skip-then-x-k-2.ensures
 
 pub returns-else-x-k-2 : goal.returns-else-x-k-2
 returns-else-x-k-2 t c =
-    let e : 6 ∷ c.in-Some.x.0 ∷ c.in-ok-sign.rest.now ≡ c.args.bytes.now = sign-is _ _ _ _ c.in-ok-sign.ensures c.in-Some.is in
+    let e : 6 ∷ c.in-Some.x.0 ∷ c.in_ok-sign.rest.now ≡ c.args.bytes.now = sign-is _ _ _ _ c.in_ok-sign.ensures c.in-Some.is in
     no-some _ _ _ _ e (λ l. let z : ⊥ = omega (arith, ltb→lt _ _ l) in absurd z)
 
 pub returns-then-y-k : goal.returns-then-y-k
 returns-then-y-k t c =
     let x = c.in-Within.x.0 in
     let y = c.in-Within.y.0 in
-    let h = c.in-ok-sign.ensures in
+    let h = c.in_ok-sign.ensures in
     let p = c.if-x-k-3.true in
     let q = c.if-y-k.true in
     ⊎_elim (λ e. two _ x y (within x y) _ _ (sign-is _ _ _ _ h e) refl p q)
@@ -82,7 +82,7 @@ pub returns-else-x-k-3 : goal.returns-else-x-k-3
 returns-else-x-k-3 t c =
     let x = c.in-Within.x.0 in
     let y = c.in-Within.y.0 in
-    let h = c.in-ok-sign.ensures in
+    let h = c.in_ok-sign.ensures in
     let p = c.else-x-k-3.either in
     ⊎_elim (λ e. no-two _ x y (within x y) _ _ (sign-is _ _ _ _ h e) refl p)
     (⊎_elim (λ e. no-two _ x y (next x y) _ _ (sign-is _ _ _ _ h e) refl p) (λ e. no-two _ x y (before x y) _ _ (sign-is _ _ _ _ h e) refl p)) c.in-Within.is

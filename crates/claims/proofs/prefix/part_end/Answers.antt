@@ -16,8 +16,8 @@ behind s p r a h e =
 pub returns-then-at-bytes : goal.returns-then-at-bytes
 returns-then-at-bytes c d t f = omega (arith, shorter c.args.k d _ t f, length-drop c.args.at c.args.bytes.now)
 
-pub overflow-sub-result : goal.overflow-sub-result
-overflow-sub-result c =
+pub overflow_sub-result : goal.overflow_sub-result
+overflow_sub-result c =
     let (d, f) = c.in-Some.ensures in
     let s = c.args.bytes.now in
     (behind s (row d) c.in-Some.rest.now c.args.at (omega arith) (f.rows ∙ take_rest s c.args.at)).0

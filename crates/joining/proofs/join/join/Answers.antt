@@ -7,7 +7,7 @@ use Rattle.joining.proofs.join.join.Goals as goal
 use Rattle.joining.proofs.join.join.Goals.{then-loop-column-test+then-count-t, else-loop-column-test+then-count-before}
 
 pub refine-init : goal.refine-init
-refine-init c = (c.copy.ensures, coarse-start c.by-acceptance-count.ensures c.args.k (entry c.args.t.rows.now c.args.t.width))
+refine-init c = (c.copy.ensures, coarse-start c.by_acceptance-count.ensures c.args.k (entry c.args.t.rows.now c.args.t.width))
 
 pub renumber-count-requires : goal.renumber-count-requires
 renumber-count-requires c =

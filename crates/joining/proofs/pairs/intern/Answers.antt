@@ -6,4 +6,4 @@ pub returns-in-Some : goal.returns-in-Some
 returns-in-Some c = interned-old c.in-Some.i c.requires.pairs c.in-Some.ensures
 
 pub returns-in-None : goal.returns-in-None
-returns-in-None c = interned-new c.note-pair.ensures.numbered c.note-pair.ensures.noted c.note-pair.ensures.kept
+returns-in-None c = interned-new c.note_pair.ensures.numbered c.note_pair.ensures.noted c.note_pair.ensures.kept

@@ -8,8 +8,8 @@ loop-i-init c = (omega arith, omega arith, far-start (said c.args.kind) c.args.k
 
 pub loop-i-preserved : goal.loop-i-preserved
 loop-i-preserved c =
-    let g = c.explore-row-count.ensures.1 in
-    let f = far-few (said c.args.kind) c.args.k c.explore-row-count.result c.explore-row-count.new.at c.explore-row-count.new.rows (c.loop-i.i + 1) 0 g in
+    let g = c.explore_row-count.ensures.1 in
+    let f = far-few (said c.args.kind) c.args.k c.explore_row-count.result c.explore_row-count.new.at c.explore_row-count.new.rows (c.loop-i.i + 1) 0 g in
     (omega arith, f, g)
 
 pub returns : goal.returns

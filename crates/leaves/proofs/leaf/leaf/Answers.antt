@@ -20,8 +20,8 @@ join-n-requires c =
     }
 
 pub returns-then-n-most : goal.returns-then-n-most
-returns-then-n-most c = leaf-many (said c.args.kind) c.args.k c.args.most _ c.explore-count.result c.explore-count.new.at c.explore-count.new.rows c.accept-states.new.accept c.join-n.new.cls c.join-n.new.firsts c.join-n.result
-    (one_shl c.args.k 64 (omega arith)) c.explore-count.ensures.explored c.accept-states.ensures c.join-n.ensures.joined c.if-n-most.true
+returns-then-n-most c = leaf-many (said c.args.kind) c.args.k c.args.most _ c.explore-count.result c.explore-count.new.at c.explore-count.new.rows c.accept_states.new.accept c.join-n.new.cls c.join-n.new.firsts c.join-n.result
+    (one_shl c.args.k 64 (omega arith)) c.explore-count.ensures.explored c.accept_states.ensures c.join-n.ensures.joined c.if-n-most.true
 
 pub quotient-requires : goal.quotient-requires
 quotient-requires c =
@@ -36,6 +36,6 @@ quotient-requires c =
 pub returns : goal.returns
 returns c = (
   omega arith,
-  leaf-worked (said c.args.kind) c.args.k c.args.most _ c.explore-count.result c.explore-count.new.at c.explore-count.new.rows c.accept-states.new.accept c.join-n.new.cls c.join-n.new.firsts c.join-n.result
-      (one_shl c.args.k 64 (omega arith)) c.explore-count.ensures.explored c.accept-states.ensures c.join-n.ensures.joined c.quotient.new.rows c.quotient.new.accept c.quotient.ensures (omega arith),
+  leaf-worked (said c.args.kind) c.args.k c.args.most _ c.explore-count.result c.explore-count.new.at c.explore-count.new.rows c.accept_states.new.accept c.join-n.new.cls c.join-n.new.firsts c.join-n.result
+      (one_shl c.args.k 64 (omega arith)) c.explore-count.ensures.explored c.accept_states.ensures c.join-n.ensures.joined c.quotient.new.rows c.quotient.new.accept c.quotient.ensures (omega arith),
 )

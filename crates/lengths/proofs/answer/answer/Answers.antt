@@ -5,8 +5,8 @@ use Rattle.lengths.proofs.AnswerLaws.{written, holds-never, holds-always, first-
 use Rattle.working.proofs.WorkingLaws.{columns-few, stands-below}
 use Rattle.lengths.proofs.answer.answer.Goals as goal
 
-pub cut-scratch-queue-requires : goal.cut-scratch-queue-requires
-cut-scratch-queue-requires c =
+pub cut_scratch-queue-requires : goal.cut_scratch-queue-requires
+cut_scratch-queue-requires c =
     let w : (1 * 2 ^ c.args.k) % 2 ^ 64 ≡ 2 ^ c.args.k = one_shl c.args.k 64 (omega arith) in
     let (p, q) = columns-few c.args.k (omega arith) in
     (omega arith, omega arith, omega arith, omega arith, omega arith)
@@ -18,36 +18,36 @@ invariant-of-t c =
     let m = mul-le c.args.m (2 ^ c.args.k) c.args.most (2 ^ c.args.k) s.0 (omega arith) in
     (rw w (omega arith), (omega arith, (stands-below c.args.k c.args.most _ c.requires.stands.0 c.args.rows.now c.args.accept.now c.args.m w s, tt)))
 
-pub returns-in-default : goal.returns-in-default
-returns-in-default c d t =
+pub returns-in_default : goal.returns-in_default
+returns-in_default c d t =
     let w : (1 * 2 ^ c.args.k) % 2 ^ 64 ≡ 2 ^ c.args.k = one_shl c.args.k 64 (omega arith) in
     let s = c.search-found in
-    (holds-never c.args.k c.args.most _ w d c.args.rows.now c.args.accept.now c.args.m t s.result s.new.queue s.new.prev s.new.via s.ensures c.in-default.ensures, refl)
+    (holds-never c.args.k c.args.most _ w d c.args.rows.now c.args.accept.now c.args.m t s.result s.new.queue s.new.prev s.new.via s.ensures c.in_default.ensures, refl)
 
-pub returns-in-default-first : goal.returns-in-default-first
-returns-in-default-first c d t =
+pub returns-in_default-first : goal.returns-in_default-first
+returns-in_default-first c d t =
     let w : (1 * 2 ^ c.args.k) % 2 ^ 64 ≡ 2 ^ c.args.k = one_shl c.args.k 64 (omega arith) in
     let s = c.search-found in
-    (holds-always c.args.k c.args.most _ w d c.args.rows.now c.args.accept.now c.args.m t s.result s.new.queue s.new.prev s.new.via s.ensures c.in-default-first.ensures, refl)
+    (holds-always c.args.k c.args.most _ w d c.args.rows.now c.args.accept.now c.args.m t s.result s.new.queue s.new.prev s.new.via s.ensures c.in_default-first.ensures, refl)
 
 pub returns-then-out-u : goal.returns-then-out-u
 returns-then-out-u c d t =
     let w : (1 * 2 ^ c.args.k) % 2 ^ 64 ≡ 2 ^ c.args.k = one_shl c.args.k 64 (omega arith) in
     let s = c.search-found in
-    let f = first-words c.args.k c.args.most _ w d c.args.rows.now c.args.accept.now c.args.m t s.result s.new.queue s.new.prev s.new.via s.ensures c.in-Some.good c.in-Some-first.bad c.word-length-u.result c.word-length-v.result
-    c.in-Some.ensures c.in-Some-first.ensures (c.word-length-u.ensures s.new.via) (c.word-length-v.ensures s.new.via) in
+    let f = first-words c.args.k c.args.most _ w d c.args.rows.now c.args.accept.now c.args.m t s.result s.new.queue s.new.prev s.new.via s.ensures c.in-Some.good c.in-Some-first.bad c.word_length-u.result c.word_length-v.result
+    c.in-Some.ensures c.in-Some-first.ensures (c.word_length-u.ensures s.new.via) (c.word_length-v.ensures s.new.via) in
     ((_, _, f, omega arith), refl)
 
 pub returns : goal.returns
 returns c d t =
     let w : (1 * 2 ^ c.args.k) % 2 ^ 64 ≡ 2 ^ c.args.k = one_shl c.args.k 64 (omega arith) in
     let s = c.search-found in
-    let f = first-words c.args.k c.args.most _ w d c.args.rows.now c.args.accept.now c.args.m t s.result s.new.queue s.new.prev s.new.via s.ensures c.in-Some.good c.in-Some-first.bad c.word-length-u.result c.word-length-v.result
-    c.in-Some.ensures c.in-Some-first.ensures (c.word-length-u.ensures s.new.via) (c.word-length-v.ensures s.new.via) in (
+    let f = first-words c.args.k c.args.most _ w d c.args.rows.now c.args.accept.now c.args.m t s.result s.new.queue s.new.prev s.new.via s.ensures c.in-Some.good c.in-Some-first.bad c.word_length-u.result c.word_length-v.result
+    c.in-Some.ensures c.in-Some-first.ensures (c.word_length-u.ensures s.new.via) (c.word_length-v.ensures s.new.via) in (
       _,
       _,
       f,
       search (rules, overwrites),
-      written c.word-length-u.result c.word-length-v.result _ _ c.write-word-2.new.out (search (rules, overwrites)) (c.word-length-v.ensures s.new.via ∙ ap length (sym c.write-word-2.ensures)) ∙ c.write-word-2.ensures,
+      written c.word_length-u.result c.word_length-v.result _ _ c.write_word-2.new.out (search (rules, overwrites)) (c.word_length-v.ensures s.new.via ∙ ap length (sym c.write_word-2.ensures)) ∙ c.write_word-2.ensures,
       search (rules, overwrites),
     )

@@ -18,13 +18,13 @@ pub loop-rest-init : goal.loop-rest-init
 loop-rest-init c = (omega arith, λ t p. subst (λ z. Pairs c.args.field.now (z ++ t)) (sym c.new-bytes.ensures.items) p, λ t p. (t, p))
 
 -- two characters that are no pair of digits
-pub returns-in-default-hex-pair : goal.returns-in-default-hex-pair
-returns-in-default-hex-pair c = inr (λ t h. elim h [
+pub returns-in_default-hex_pair : goal.returns-in_default-hex_pair
+returns-in_default-hex_pair c = inr (λ t h. elim h [
   | inl p ↦ (let l = ap length p.0 in omega arith)
   | inr p ↦
       let q = c.loop-rest.invariant.2 t p in
       let (v, r, w, m, e) = (pairs-step c.loop-rest.rest.now q.0 (search rules)).0 q.1 in
-      c.in-default-hex-pair.ensures v w
+      c.in_default-hex_pair.ensures v w
 ])
 
 pub loop-rest-preserved : goal.loop-rest-preserved

@@ -4,12 +4,12 @@ use Rattle.lines.proofs.LineLaws.{around, no-space-before, no-space-all}
 use Rattle.lines.proofs.line.split_field.Goals as goal
 
 pub returns-then-end-text : goal.returns-then-end-text
-returns-then-end-text c = record { field = no-space-all c.args.text.now c.field-end-end.result (omega arith) c.field-end-end.ensures.before; rest = refl }
+returns-then-end-text c = record { field = no-space-all c.args.text.now c.field_end-end.result (omega arith) c.field_end-end.ensures.before; rest = refl }
 
 pub returns : goal.returns
 returns c =
     let s = c.args.text.now in
-    let i = c.field-end-end.result in
+    let i = c.field_end-end.result in
     let h : i < length s = omega arith in
     let z : i ≡ i - 0 = omega arith in
-    record { field = subst (λ j. No-space (take j s)) z (no-space-before s i c.field-end-end.ensures.before); rest = around s i (i - 0) 32 h (omega arith) (c.field-end-end.ensures.found h) }
+    record { field = subst (λ j. No-space (take j s)) z (no-space-before s i c.field_end-end.ensures.before); rest = around s i (i - 0) 32 h (omega arith) (c.field_end-end.ensures.found h) }

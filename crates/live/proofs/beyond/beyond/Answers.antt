@@ -3,8 +3,8 @@ use Rattle.tables.specs.Cells.{entry, accepts}
 use Rattle.live.proofs.BeyondLaws.{marking-end}
 use Rattle.live.proofs.beyond.beyond.Goals as goal
 
-pub overflow-add-i : goal.overflow-add-i
-overflow-add-i c = omega arith
+pub overflow_add-i : goal.overflow_add-i
+overflow_add-i c = omega arith
 
 pub returns : goal.returns
 returns c =

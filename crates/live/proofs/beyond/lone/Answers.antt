@@ -8,5 +8,5 @@ use Rattle.live.proofs.beyond.lone.Goals as goal
 pub returns : goal.returns
 returns c =
     let x = c.args.x.0 in
-    let e : c.with-bit.result ≡ put-bit x true 0 = column-with x c.with-bit.result c.with-bit.ensures.here c.with-bit.ensures.others in
+    let e : c.with_bit.result ≡ put-bit x true 0 = column-with x c.with_bit.result c.with_bit.ensures.here c.with_bit.ensures.others in
     record { value = e; below = rw e (put-bit-below c.args.k x true 0 c.requires.0 (pow_pos c.args.k)) }

@@ -4,13 +4,13 @@ use Rattle.tables.specs.Cells.{entry, accepts}
 use Rattle.live.proofs.DeadLaws.{live-accepting, lives-but}
 use Rattle.live.proofs.dead.dead.Goals as goal
 
-pub returns-then-is-dead : goal.returns-then-is-dead
-returns-then-is-dead c =
+pub returns-then-is_dead : goal.returns-then-is_dead
+returns-then-is_dead c =
     let t = c.args.t in
     let q = c.loop-q.q in
     let δ = entry t.rows.now t.width in
     let f = accepts t.accept.now in
-    let nothing = dead-stays c.args.k δ f q (c.if-is-dead.ensures.rejects refl) (λ a h. c.if-is-dead.ensures.stays refl a (omega arith)) in
+    let nothing = dead-stays c.args.k δ f q (c.if-is_dead.ensures.rejects refl) (λ a h. c.if-is_dead.ensures.stays refl a (omega arith)) in
     record { within = omega arith; live = lives-but c.args.k t.classes δ f c.requires.connected c.requires.collapsed q (omega arith) nothing }
 
 pub loop-q-preserved : goal.loop-q-preserved
@@ -20,7 +20,7 @@ loop-q-preserved c =
     let q = c.loop-q.q in
     let δ = entry t.rows.now t.width in
     let f = accepts t.accept.now in
-    below_more _ _ c.loop-q.invariant (elim (c.if-is-dead.ensures.open refl) [
+    below_more _ _ c.loop-q.invariant (elim (c.if-is_dead.ensures.open refl) [
       | inl e ↦ live-accepting k δ f q e
       | inr o ↦ let (a, h, n) = o in live-moves k t.classes δ f c.requires.connected c.requires.collapsed q a (omega arith) (omega arith) n
     ])

@@ -13,7 +13,7 @@ returns-in-Some c =
 
 pub returns-else-count-f : goal.returns-else-count-f
 returns-else-count-f c =
-    let n = c.note-pair.ensures in
+    let n = c.note_pair.ensures in
     row_new c.requires.so_far c.requires.room c.requires.within
     c.next-x.ensures.value c.next-y.ensures.value c.in-None.ensures
     c.if-count-f.false n.numbered n.noted n.kept c.put-in-None.ensures

@@ -7,7 +7,7 @@ use Rattle.subsets.proofs.projection.copy.Goals as goal
 pub get-to-requires : goal.get-to-requires
 get-to-requires c =
     let p = c.args.p.now in
-    let e = put_is p.x.0 c.args.a c.without-bit.result false c.without-bit.ensures.here c.without-bit.ensures.others in
+    let e = put_is p.x.0 c.args.a c.without_bit.result false c.without_bit.ensures.here c.without_bit.ensures.others in
     let b = put-bit-below p.k p.x.0 false c.args.a c.requires.posed.bound (omega (arith, c.requires.posed.wide, c.requires.place.1)) in
     (c.requires.room, (c.requires.place.0, omega (arith, c.requires.posed.wide)))
 
@@ -18,5 +18,5 @@ copied rows rows' width i a b b' to e f g = e ∙ ap (put-entry rows width i a) 
 pub returns : goal.returns
 returns c =
     let p = c.args.p.now in
-    copied c.args.rows.now c.put.new.rows p.t.width c.args.i c.args.a c.without-bit.result _ c.get-to.result.0 c.put.ensures c.get-to.ensures
-    (put_is p.x.0 c.args.a c.without-bit.result false c.without-bit.ensures.here c.without-bit.ensures.others)
+    copied c.args.rows.now c.put.new.rows p.t.width c.args.i c.args.a c.without_bit.result _ c.get-to.result.0 c.put.ensures c.get-to.ensures
+    (put_is p.x.0 c.args.a c.without_bit.result false c.without_bit.ensures.here c.without_bit.ensures.others)

@@ -10,7 +10,7 @@ pub follow-requires : goal.follow-requires
 follow-requires c =
     let p = c.args.p.now in
     let s = c.requires.posed in
-    let e = put_is p.x.0 c.args.a c.with-bit-b.result true c.with-bit-b.ensures.here c.with-bit-b.ensures.others in
+    let e = put_is p.x.0 c.args.a c.with_bit-b.result true c.with_bit-b.ensures.here c.with_bit-b.ensures.others in
     let b = put-bit-below p.k p.x.0 true c.args.a s.bound (omega (arith, s.wide, c.requires.place.2)) in
     record {
       order = c.requires.place.0;
@@ -25,9 +25,9 @@ returns c =
     let p = c.args.p.now in
     let x = p.x.0 in
     let a = c.args.a in
-    let b = c.with-bit-b.result in
+    let b = c.with_bit-b.result in
     record {
       made = step-made p.t.classes (entry p.t.rows.now p.t.width) (lives p.t.classes p.dead) x (member c.args.sets.now p.w c.args.i) (member c.follow.new.sets p.w c.args.n) a b
-          c.requires.inside (put_same x a false c.requires.without) (put_is x a b true c.with-bit-b.ensures.here c.with-bit-b.ensures.others) c.follow.ensures.made;
+          c.requires.inside (put_same x a false c.requires.without) (put_is x a b true c.with_bit-b.ensures.here c.with_bit-b.ensures.others) c.follow.ensures.made;
       kept = c.follow.ensures.kept;
     }

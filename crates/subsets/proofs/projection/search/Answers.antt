@@ -29,8 +29,8 @@ row-requires c =
       column = omega (arith, c.requires.posed.wide, pow_pos c.args.p.now.k);
     }
 
-pub overflow-add-i : goal.overflow-add-i
-overflow-add-i c = let h = c.loop-i.invariant.1.few in let g = c.requires.posed.small in search rules
+pub overflow_add-i : goal.overflow_add-i
+overflow_add-i c = let h = c.loop-i.invariant.1.few in let g = c.requires.posed.small in search rules
 
 pub loop-i-smaller : goal.loop-i-smaller
 loop-i-smaller c = omega (arith, c.loop-i.invariant.1.few)

@@ -9,10 +9,10 @@ use Rattle.subsets.proofs.projection.start_set.Goals as goal
 pub returns : goal.returns
 returns c =
     let p = c.args.p.now in
-    let row = c.put-live.new.row in
+    let row = c.put_live.new.row in
     let l = length-take (p.w - 0) c.args.sets.now in
     ap has (row_first row (post_of 0 (p.w - 0) c.args.sets.now) p.w (omega arith))
     ∙ start-made p.t.classes p.dead (has row) c.requires.posed.some (λ q. (
-      λ t. elim ((c.put-live.ensures q).0 t) [ inl u ↦ absurd (false≢true (sym (c.clear.ensures q) ∙ u)) | inr u ↦ u ],
-      λ u. (c.put-live.ensures q).1 (inr u),
+      λ t. elim ((c.put_live.ensures q).0 t) [ inl u ↦ absurd (false≢true (sym (c.clear.ensures q) ∙ u)) | inr u ↦ u ],
+      λ u. (c.put_live.ensures q).1 (inr u),
     ))

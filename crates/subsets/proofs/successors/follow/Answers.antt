@@ -20,8 +20,8 @@ offset-bounds-sets-i c = let f = row_fits c.args.i c.args.to c.args.w c.requires
 pub bounds-sets-i : goal.bounds-sets-i
 bounds-sets-i c = let f = row_fits c.args.i c.args.to c.args.w c.requires.order in omega arith
 
-pub follow-word-requires : goal.follow-word-requires
-follow-word-requires c =
+pub follow_word-requires : goal.follow_word-requires
+follow_word-requires c =
     let s = c.args.sets.now in
     let w = c.args.w in
     let i = c.args.i in
@@ -42,7 +42,7 @@ follow-word-requires c =
 pub loop-z-preserved : goal.loop-z-preserved
 loop-z-preserved c =
     let l = part_length c.loop-z.sets c.args.w c.args.to (omega arith) in
-    followed-word _ c.args.w c.args.i c.args.to c.requires.order _ c.loop-z.sets c.loop-z.z c.loop-z.invariant (omega arith) c.loop-z-test.true c.follow-word.new.row (omega arith) (omega arith) c.follow-word.ensures
+    followed-word _ c.args.w c.args.i c.args.to c.requires.order _ c.loop-z.sets c.loop-z.z c.loop-z.invariant (omega arith) c.loop-z-test.true c.follow_word.new.row (omega arith) (omega arith) c.follow_word.ensures
 
 pub returns : goal.returns
 returns c =

@@ -11,14 +11,14 @@ use Rattle.subsets.proofs.successors.follow_word.Goals.{then-left-eq1, else-left
 pub loop-left-init : goal.loop-left-init
 loop-left-init c = (c.requires.inside, omega arith, λ r. (λ s. s, λ s. s))
 
-pub overflow-cast-p : goal.overflow-cast-p
-overflow-cast-p c = let h = bits-below-now c.args.t.classes c.loop-left.p c.loop-left.left c.loop-left.invariant.0 c.if-left-eq1.true in search rules
+pub overflow_cast-p : goal.overflow_cast-p
+overflow_cast-p c = let h = bits-below-now c.args.t.classes c.loop-left.p c.loop-left.left c.loop-left.invariant.0 c.if-left-eq1.true in search rules
 
-pub follow-class-requires : goal.follow-class-requires
-follow-class-requires c = let h = bits-below-now c.args.t.classes c.loop-left.p c.loop-left.left c.loop-left.invariant.0 c.if-left-eq1.true in search rules
+pub follow_class-requires : goal.follow_class-requires
+follow_class-requires c = let h = bits-below-now c.args.t.classes c.loop-left.p c.loop-left.left c.loop-left.invariant.0 c.if-left-eq1.true in search rules
 
-pub overflow-add-p : goal.overflow-add-p
-overflow-add-p c = search rules
+pub overflow_add-p : goal.overflow_add-p
+overflow_add-p c = search rules
 
 pub loop-left-preserved : goal.loop-left-preserved
 loop-left-preserved c =
@@ -33,7 +33,7 @@ loop-left-preserved c =
       bits-below-later c.args.t.classes p left c.loop-left.invariant.0,
       omega arith,
       elim c.if-left-eq1.branch [
-        | then-left-eq1 w ↦ subst P (sym w.row-is) (ahead-put L X from word (has c.loop-left.row) p left h _ w.if-left-eq1.true w.follow-class.ensures)
+        | then-left-eq1 w ↦ subst P (sym w.row-is) (ahead-put L X from word (has c.loop-left.row) p left h _ w.if-left-eq1.true w.follow_class.ensures)
         | else-left-eq1 w ↦ subst P (sym w.row-is) (ahead-skip L X from word (has c.loop-left.row) p left h w.if-left-eq1.false)
       ],
     )

@@ -4,7 +4,7 @@ use Rattle.tables.specs.Cells.{entry}
 use Rattle.table_cases.proofs.checked.is_table.Goals as goal
 
 pub loop-q-preserved : goal.loop-q-preserved
-loop-q-preserved c = below_more _ _ c.loop-q.invariant (c.row-below.ensures c.if-not-row-below.false)
+loop-q-preserved c = below_more _ _ c.loop-q.invariant (c.row_below.ensures c.if-not-row_below.false)
 
 pub returns : goal.returns
 returns c e =

@@ -4,14 +4,14 @@ use Rattle.working.proofs.WorkingLaws.{columns-few, stands-below, stands-start}
 use Rattle.working.proofs.CombineLaws.{conjoin-many, conjoin-stands}
 use Rattle.working.proofs.combine.conjoin.Goals as goal
 
-pub cut-scratch-a-requires : goal.cut-scratch-a-requires
-cut-scratch-a-requires c =
+pub cut_scratch-a-requires : goal.cut_scratch-a-requires
+cut_scratch-a-requires c =
     let w : (1 * 2 ^ c.args.k) % 2 ^ 64 ≡ 2 ^ c.args.k = one_shl c.args.k 64 (omega arith) in
     let (p, q) = columns-few c.args.k (omega arith) in
     (omega arith, omega arith, omega arith, omega arith, omega arith)
 
-pub cut-slot-pair-rows-requires : goal.cut-slot-pair-rows-requires
-cut-slot-pair-rows-requires c =
+pub cut_slot-pair_rows-requires : goal.cut_slot-pair_rows-requires
+cut_slot-pair_rows-requires c =
     let w : (1 * 2 ^ c.args.k) % 2 ^ 64 ≡ 2 ^ c.args.k = one_shl c.args.k 64 (omega arith) in
     let (p, q) = columns-few c.args.k (omega arith) in
     (rw w (omega arith), omega arith, omega arith)
@@ -28,7 +28,7 @@ invariant-of-right c =
     let w : (1 * 2 ^ c.args.k) % 2 ^ 64 ≡ 2 ^ c.args.k = one_shl c.args.k 64 (omega arith) in
     let s = c.requires.second.1 in
     let m = mul-le c.args.n (2 ^ c.args.k) c.args.most (2 ^ c.args.k) s.0 (omega arith) in
-    (rw w (omega arith), (omega arith, (stands-below c.args.k c.args.most _ c.requires.second.0 c.args.other-rows.now c.args.other-accept.now c.args.n w s, tt)))
+    (rw w (omega arith), (omega arith, (stands-below c.args.k c.args.most _ c.requires.second.0 c.args.other_rows.now c.args.other_accept.now c.args.n w s, tt)))
 
 pub product-requires : goal.product-requires
 product-requires c =
@@ -38,28 +38,28 @@ product-requires c =
     let m = mul-le c.args.m c.args.n (c.args.most + 1) c.args.most (omega (arith, s.0)) t.0 in
     record {
       wide = (w, (w, omega arith));
-      starts = (stands-start c.args.k c.args.most c.requires.first.0 c.args.rows.now c.args.accept.now c.args.m s, stands-start c.args.k c.args.most c.requires.second.0 c.args.other-rows.now c.args.other-accept.now c.args.n t);
+      starts = (stands-start c.args.k c.args.most c.requires.first.0 c.args.rows.now c.args.accept.now c.args.m s, stands-start c.args.k c.args.most c.requires.second.0 c.args.other_rows.now c.args.other_accept.now c.args.n t);
       most = (omega arith, omega arith);
       room = (rw (sym w) (omega arith), (omega arith, (omega arith, (omega arith, omega arith))));
     }
 
-pub returns-in-err-count : goal.returns-in-err-count
-returns-in-err-count c = rw c.from-residual.ensures (λ a b s t. conjoin-many c.args.k c.args.most _ (one_shl c.args.k 64 (omega arith)) a b c.args.m c.args.n c.args.rows.now c.args.accept.now c.args.other-rows.now c.args.other-accept.now s t c.in-err-count.ensures)
+pub returns-in_err-count : goal.returns-in_err-count
+returns-in_err-count c = rw c.from_residual.ensures (λ a b s t. conjoin-many c.args.k c.args.most _ (one_shl c.args.k 64 (omega arith)) a b c.args.m c.args.n c.args.rows.now c.args.accept.now c.args.other_rows.now c.args.other_accept.now s t c.in_err-count.ensures)
 
 pub invariant-of-both : goal.invariant-of-both
 invariant-of-both c =
     let w : (1 * 2 ^ c.args.k) % 2 ^ 64 ≡ 2 ^ c.args.k = one_shl c.args.k 64 (omega arith) in
-    let p = c.in-ok-count.ensures in
-    let m = mul-le c.in-ok-count.count ((1 * 2 ^ c.args.k) % 2 ^ 64) c.args.most ((1 * 2 ^ c.args.k) % 2 ^ 64) p.few (omega arith) in
+    let p = c.in_ok-count.ensures in
+    let m = mul-le c.in_ok-count.count ((1 * 2 ^ c.args.k) % 2 ^ 64) c.args.most ((1 * 2 ^ c.args.k) % 2 ^ 64) p.few (omega arith) in
     (omega arith, (omega (arith, p.few), (λ q a h g. p.explored.connected.closed q a h (subst (λ z. a < z) w g), tt)))
 
-pub join-into-requires : goal.join-into-requires
-join-into-requires c =
+pub join_into-requires : goal.join_into-requires
+join_into-requires c =
     let w : (1 * 2 ^ c.args.k) % 2 ^ 64 ≡ 2 ^ c.args.k = one_shl c.args.k 64 (omega arith) in
-    let p = c.in-ok-count.ensures in
-    let few : c.in-ok-count.count ≤ c.args.most = p.few in
-    let m = mul-le c.in-ok-count.count c.in-ok-count.count (c.args.most + 1) c.args.most (omega arith) few in
-    let l = mul-le c.in-ok-count.count (2 ^ c.args.k) c.args.most (2 ^ c.args.k) few (omega arith) in
+    let p = c.in_ok-count.ensures in
+    let few : c.in_ok-count.count ≤ c.args.most = p.few in
+    let m = mul-le c.in_ok-count.count c.in_ok-count.count (c.args.most + 1) c.args.most (omega arith) few in
+    let l = mul-le c.in_ok-count.count (2 ^ c.args.k) c.args.most (2 ^ c.args.k) few (omega arith) in
     record {
       table = (omega arith, w, p.explored.connected.start, omega arith);
       room = (omega arith, omega arith, omega arith, record { lefts-fit = omega arith; rights-fit = omega arith; index-fits = omega arith });
@@ -68,8 +68,8 @@ join-into-requires c =
 
 pub returns : goal.returns
 returns c a b s t =
-    let p = c.in-ok-count.ensures in
-    let j = c.join-into.ensures in
-    conjoin-stands c.args.k c.args.most _ (one_shl c.args.k 64 (omega arith)) a b c.args.m c.args.n c.args.rows.now c.args.accept.now c.args.other-rows.now c.args.other-accept.now s t
-    c.in-ok-count.count c.product.new.lefts c.product.new.rights c.product.new.rows c.product.new.accept p.few p.explored p.accepted
-    c.join-into.new.cls c.join-into.new.firsts c.join-into.result c.join-into.new.rows c.join-into.new.accept j.joined j.table j.few
+    let p = c.in_ok-count.ensures in
+    let j = c.join_into.ensures in
+    conjoin-stands c.args.k c.args.most _ (one_shl c.args.k 64 (omega arith)) a b c.args.m c.args.n c.args.rows.now c.args.accept.now c.args.other_rows.now c.args.other_accept.now s t
+    c.in_ok-count.count c.product.new.lefts c.product.new.rights c.product.new.rows c.product.new.accept p.few p.explored p.accepted
+    c.join_into.new.cls c.join_into.new.firsts c.join_into.result c.join_into.new.rows c.join_into.new.accept j.joined j.table j.few

@@ -5,14 +5,14 @@ use Rattle.working.proofs.WorkingLaws.{columns-few, stands-below, stands-start}
 use Rattle.working.proofs.ProjectLaws.{project-many, project-stands, stands-collapsed, stands-connected}
 use Rattle.working.proofs.combine.project.Goals as goal
 
-pub cut-scratch-a-requires : goal.cut-scratch-a-requires
-cut-scratch-a-requires c =
+pub cut_scratch-a-requires : goal.cut_scratch-a-requires
+cut_scratch-a-requires c =
     let w : (1 * 2 ^ c.args.k) % 2 ^ 64 ≡ 2 ^ c.args.k = one_shl c.args.k 64 (omega arith) in
     let (p, q) = columns-few c.args.k (omega arith) in
     (omega arith, omega arith, omega arith, omega arith, omega arith)
 
-pub cut-slot-set-rows-requires : goal.cut-slot-set-rows-requires
-cut-slot-set-rows-requires c =
+pub cut_slot-set_rows-requires : goal.cut_slot-set_rows-requires
+cut_slot-set_rows-requires c =
     let w : (1 * 2 ^ c.args.k) % 2 ^ 64 ≡ 2 ^ c.args.k = one_shl c.args.k 64 (omega arith) in
     let (p, q) = columns-few c.args.k (omega arith) in
     (rw w (omega arith), omega arith, omega arith)
@@ -24,8 +24,8 @@ invariant-of-part c =
     let m = mul-le c.args.m (2 ^ c.args.k) c.args.most (2 ^ c.args.k) s.0 (omega arith) in
     (rw w (omega arith), (omega arith, (stands-below c.args.k c.args.most _ c.requires.part.0 c.args.rows.now c.args.accept.now c.args.m w s, tt)))
 
-pub dead-dead-class-requires : goal.dead-dead-class-requires
-dead-dead-class-requires c =
+pub dead-dead_class-requires : goal.dead-dead_class-requires
+dead-dead_class-requires c =
     let w : (1 * 2 ^ c.args.k) % 2 ^ 64 ≡ 2 ^ c.args.k = one_shl c.args.k 64 (omega arith) in
     let s = c.requires.part.1 in
     record {
@@ -50,31 +50,31 @@ subsets-requires c =
       chains = (omega arith, omega arith, omega arith);
     }
 
-pub returns-in-err-count : goal.returns-in-err-count
-returns-in-err-count c = rw c.from-residual.ensures (λ a s. project-many c.args.k c.args.most _ (one_shl c.args.k 64 (omega arith)) a c.args.m c.args.rows.now c.args.accept.now s
-    c.args.x.0 (omega arith) c.dead-dead-class.result c.dead-dead-class.ensures.live c.in-err-count.ensures)
+pub returns-in_err-count : goal.returns-in_err-count
+returns-in_err-count c = rw c.from_residual.ensures (λ a s. project-many c.args.k c.args.most _ (one_shl c.args.k 64 (omega arith)) a c.args.m c.args.rows.now c.args.accept.now s
+    c.args.x.0 (omega arith) c.dead-dead_class.result c.dead-dead_class.ensures.live c.in_err-count.ensures)
 
 pub invariant-of-sets : goal.invariant-of-sets
 invariant-of-sets c =
     let w : (1 * 2 ^ c.args.k) % 2 ^ 64 ≡ 2 ^ c.args.k = one_shl c.args.k 64 (omega arith) in
-    let p = c.in-ok-count.ensures in
-    let m = mul-le c.in-ok-count.count ((1 * 2 ^ c.args.k) % 2 ^ 64) c.args.most ((1 * 2 ^ c.args.k) % 2 ^ 64) p.few (omega arith) in
+    let p = c.in_ok-count.ensures in
+    let m = mul-le c.in_ok-count.count ((1 * 2 ^ c.args.k) % 2 ^ 64) c.args.most ((1 * 2 ^ c.args.k) % 2 ^ 64) p.few (omega arith) in
     (omega arith, (omega (arith, p.few), (λ q a h g. rw w (p.explored.connected.closed q a h (subst (λ z. a < z) w g)), tt)))
 
-pub join-into-requires : goal.join-into-requires
-join-into-requires c =
+pub join_into-requires : goal.join_into-requires
+join_into-requires c =
     let w : (1 * 2 ^ c.args.k) % 2 ^ 64 ≡ 2 ^ c.args.k = one_shl c.args.k 64 (omega arith) in
-    let p = c.in-ok-count.ensures in
-    let few : c.in-ok-count.count ≤ c.args.most = p.few in
-    let m = mul-le c.in-ok-count.count c.in-ok-count.count (c.args.most + 1) c.args.most (omega arith) few in
-    let l = mul-le c.in-ok-count.count (2 ^ c.args.k) c.args.most (2 ^ c.args.k) few (omega arith) in
-    let room : c.in-ok-count.count ≤ c.args.most + 10 = omega arith in
-    let arrays = c.cut-scratch-a.ensures.arrays in
-    let cls : c.in-ok-count.count ≤ length c.beyond.new.completed = subst (λ z. c.in-ok-count.count ≤ z) (sym (c.beyond.auto.completed ∙ arrays.a-long)) room in
-    let firsts : c.in-ok-count.count ≤ length c.subsets.new.heads = subst (λ z. c.in-ok-count.count ≤ z) (sym (c.subsets.auto.heads ∙ (c.beyond.auto.heads0 ∙ arrays.b-long))) room in
-    let cur : c.in-ok-count.count ≤ length c.subsets.new.links = subst (λ z. c.in-ok-count.count ≤ z) (sym (c.subsets.auto.links ∙ (c.beyond.auto.links0 ∙ arrays.c-long))) room in
-    let lefts : c.in-ok-count.count ≤ length c.subsets.new.buckets = subst (λ z. c.in-ok-count.count ≤ z) (sym (c.subsets.auto.buckets ∙ (c.beyond.auto.heads1 ∙ arrays.d-long))) room in
-    let rights : c.in-ok-count.count ≤ length c.beyond.new.links1 = subst (λ z. c.in-ok-count.count ≤ z) (sym (c.beyond.auto.links1 ∙ arrays.e-long)) room in
+    let p = c.in_ok-count.ensures in
+    let few : c.in_ok-count.count ≤ c.args.most = p.few in
+    let m = mul-le c.in_ok-count.count c.in_ok-count.count (c.args.most + 1) c.args.most (omega arith) few in
+    let l = mul-le c.in_ok-count.count (2 ^ c.args.k) c.args.most (2 ^ c.args.k) few (omega arith) in
+    let room : c.in_ok-count.count ≤ c.args.most + 10 = omega arith in
+    let arrays = c.cut_scratch-a.ensures.arrays in
+    let cls : c.in_ok-count.count ≤ length c.beyond.new.completed = subst (λ z. c.in_ok-count.count ≤ z) (sym (c.beyond.auto.completed ∙ arrays.a-long)) room in
+    let firsts : c.in_ok-count.count ≤ length c.subsets.new.heads = subst (λ z. c.in_ok-count.count ≤ z) (sym (c.subsets.auto.heads ∙ (c.beyond.auto.heads0 ∙ arrays.b-long))) room in
+    let cur : c.in_ok-count.count ≤ length c.subsets.new.links = subst (λ z. c.in_ok-count.count ≤ z) (sym (c.subsets.auto.links ∙ (c.beyond.auto.links0 ∙ arrays.c-long))) room in
+    let lefts : c.in_ok-count.count ≤ length c.subsets.new.buckets = subst (λ z. c.in_ok-count.count ≤ z) (sym (c.subsets.auto.buckets ∙ (c.beyond.auto.heads1 ∙ arrays.d-long))) room in
+    let rights : c.in_ok-count.count ≤ length c.beyond.new.links1 = subst (λ z. c.in_ok-count.count ≤ z) (sym (c.beyond.auto.links1 ∙ arrays.e-long)) room in
     record {
       table = (omega arith, w, p.explored.connected.start, omega arith);
       room = (cls, firsts, cur, record { lefts-fit = lefts; rights-fit = rights; index-fits = omega arith });
@@ -83,8 +83,8 @@ join-into-requires c =
 
 pub returns : goal.returns
 returns c a s =
-    let j = c.join-into.ensures in
+    let j = c.join_into.ensures in
     project-stands c.args.k c.args.most _ (one_shl c.args.k 64 (omega arith)) a c.args.m c.args.rows.now c.args.accept.now s
-    c.args.x.0 (omega arith) c.dead-dead-class.result c.dead-dead-class.ensures.live
-    c.beyond.new.completed c.beyond.ensures c.in-ok-count.count c.subsets.new.rows c.subsets.new.accept c.subsets.new.sets c.in-ok-count.ensures
-    c.join-into.new.cls c.join-into.new.firsts c.join-into.result c.join-into.new.rows c.join-into.new.accept j.joined j.table j.few
+    c.args.x.0 (omega arith) c.dead-dead_class.result c.dead-dead_class.ensures.live
+    c.beyond.new.completed c.beyond.ensures c.in_ok-count.count c.subsets.new.rows c.subsets.new.accept c.subsets.new.sets c.in_ok-count.ensures
+    c.join_into.new.cls c.join_into.new.firsts c.join_into.result c.join_into.new.rows c.join_into.new.accept j.joined j.table j.few

@@ -3,8 +3,8 @@ use Rattle.std.proofs.lemmas.Nat.{one_shl}
 use Rattle.working.proofs.WorkingLaws.{columns-few}
 use Rattle.working.proofs.combine.work_leaf.Goals as goal
 
-pub cut-scratch-states-requires : goal.cut-scratch-states-requires
-cut-scratch-states-requires c =
+pub cut_scratch-states-requires : goal.cut_scratch-states-requires
+cut_scratch-states-requires c =
     let w : (1 * 2 ^ c.args.k) % 2 ^ 64 ≡ 2 ^ c.args.k = one_shl c.args.k 64 (omega arith) in
     let (p, q) = columns-few c.args.k (omega arith) in
     (omega arith, omega arith, omega arith, omega arith, omega arith)

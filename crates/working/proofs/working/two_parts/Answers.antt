@@ -4,10 +4,10 @@ use Rattle.working.proofs.WorkOutLaws.{first-longer, second-longer}
 use Rattle.working.proofs.working.two_parts.Goals as goal
 
 pub unreachable-requires : goal.unreachable-requires
-unreachable-requires c = no-first c.args.k c.args.rest.now (5 ∷ c.args.rest.now) refl c.in-default.ensures c.requires.0 [] c.requires.1
+unreachable-requires c = no-first c.args.k c.args.rest.now (5 ∷ c.args.rest.now) refl c.in_default.ensures c.requires.0 [] c.requires.1
 
-pub overflow-sub-first : goal.overflow-sub-first
-overflow-sub-first c =
+pub overflow_sub-first : goal.overflow_sub-first
+overflow_sub-first c =
     let (d, f) = c.in-Some.ensures in
     omega (arith, shorter c.args.k d c.args.rest.now c.in-Some.second.now f)
 
