@@ -10,8 +10,8 @@ use Rattle.bitsets.proofs.bitrows.meets_word.Goals.{else-left-eq1-via-then-left-
 pub loop-left-init : goal.loop-left-init
 loop-left-init c = (c.requires.inside, omega arith, (λ s. s, λ s. s))
 
-pub offset-bounds-accept-q : goal.offset-bounds-accept-q
-offset-bounds-accept-q c = let h = bits-below-now (length c.args.accept.now) c.loop-left.q c.loop-left.left c.loop-left.invariant.0 c.if-left-eq1.true in search rules
+pub offset_bounds-accept-q : goal.offset_bounds-accept-q
+offset_bounds-accept-q c = let h = bits-below-now (length c.args.accept.now) c.loop-left.q c.loop-left.left c.loop-left.invariant.0 c.if-left-eq1.true in search rules
 
 pub bounds-accept-q : goal.bounds-accept-q
 bounds-accept-q c = let h = bits-below-now (length c.args.accept.now) c.loop-left.q c.loop-left.left c.loop-left.invariant.0 c.if-left-eq1.true in omega arith

@@ -13,8 +13,8 @@ same_rows-requires c = let f = row_fits (c.loop-next.next - 1) c.args.n c.args.w
 pub returns-then-same_rows : goal.returns-then-same_rows
 returns-then-same_rows c = (omega arith, c.same_rows.ensures.0 c.if-same_rows.true)
 
-pub offset-bounds-links-j : goal.offset-bounds-links-j
-offset-bounds-links-j c = search rules
+pub offset_bounds-links-j : goal.offset_bounds-links-j
+offset_bounds-links-j c = search rules
 
 pub bounds-links-j : goal.bounds-links-j
 bounds-links-j c = search rules
