@@ -19,7 +19,7 @@ returns-in-None c =
     let w = c.args.w in
     let n = c.args.n in
     record {
-      differs = λ j o e. (let f = row_fits j n w o in c.in-None.ensures j o (row-ext sets w j n (omega arith) c.requires.room.0 (λ z. omega (arith, c.type-inv.sets z)) e));
+      differs = λ j o e. (let f = row_fits j n w o in c.in-None.ensures j o (row-ext sets w j n (omega arith) c.requires.room.0 (λ z. omega (arith, c.type_inv.sets z)) e));
       interned = interned-more sets w n c.args.heads.now c.args.links.now c.args.buckets.now c.file.new.heads c.file.new.links c.file.new.buckets c.bucket-h.result
           c.requires.interned c.file.ensures.chained c.file.ensures.filed c.requires.room.3 (omega arith)
           (c.bucket-h.ensures.value ∙ ap (λ r. bucket-of r (length c.args.heads.now)) (row-part sets w n));
