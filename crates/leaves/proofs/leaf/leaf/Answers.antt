@@ -5,12 +5,6 @@ use Rattle.leaves.specs.Kind.{said}
 use Rattle.leaves.proofs.LeafLaws.{leaf-worked, leaf-many}
 use Rattle.leaves.proofs.leaf.leaf.Goals as goal
 
-pub invariant-of-t : goal.invariant-of-t
-invariant-of-t c =
-    let w : (1 * 2 ^ c.args.k) % 2 ^ 64 ≡ 2 ^ c.args.k = one_shl c.args.k 64 (omega arith) in
-    let m = mul-le c.explore-count.result (2 ^ c.args.k) 9 (2 ^ c.args.k) c.explore-count.ensures.few (omega arith) in
-    (rw w (omega arith), (omega arith, (λ q a h g. rw w (c.explore-count.ensures.explored.connected.closed q a h (subst (λ z. a < z) w g)), tt)))
-
 pub join-n-requires : goal.join-n-requires
 join-n-requires c =
     let m = mul-le c.explore-count.result c.explore-count.result 9 9 c.explore-count.ensures.few c.explore-count.ensures.few in
