@@ -44,7 +44,7 @@ pub leaf-named : (k K : ℕ) (a : Kind) (s rest : List ℕ) → K ≡ k → is-p
 leaf-named k K a s rest i p e = subst (λ z. Named z a) (sym i) (leaf-front k a p.0 rest s e p.1).0
 
 pub leaf_room : (k K n s rows accept free scratch pairs : ℕ) → K ≡ k → Lent s k n rows accept free scratch pairs → (n * 2 ^ K ≤ rows) × (n ≤ accept) × (12 * 2 ^ K + 96 * (n + 1) ≤ scratch)
-leaf_room k K n s rows accept free scratch pairs i l = rw i (l.rows_fit, l.accept_fits, l.scratch-fits)
+leaf_room k K n s rows accept free scratch pairs i l = rw i (l.rows_fit, l.accept-fits, l.scratch-fits)
 
 pub leaf-out : (k K n : ℕ) (a : Kind) (s rest rows accept : List ℕ) (r : Option ℕ) → K ≡ k → is-part k s → row (claim (said a)) ++ rest ≡ s → Result K n (claim (said a)) rows accept r → WorkedOut k n s rows accept r
 leaf-out k K n a s rest rows accept r i p e y = out_of k n (claim (said a)) s rows accept r (leaf-front k a p.0 rest s e p.1).1 (result-sets k K n (claim (said a)) rows accept r i y)
@@ -86,7 +86,7 @@ some-part k g x s r b i p =
 pub some-room : (s k K n rows accept free scratch pairs : ℕ) → K ≡ k → 4 ≤ s → Lent s k n rows accept free scratch pairs → ((n * 2 ^ K ≤ rows) × (n ≤ accept)) × ((n * 2 ^ K + n ≤ free) × (12 * 2 ^ K + 96 * (n + 1) ≤ scratch) × ((n + 1) * n ≤ pairs))
 some-room s k K n rows accept free scratch pairs i h l =
     let m = two-free s k n rows accept free scratch pairs h l in
-    rw i ((l.rows_fit, l.accept_fits), (omega arith, l.scratch-fits, l.pairs-fit))
+    rw i ((l.rows_fit, l.accept-fits), (omega arith, l.scratch-fits, l.pairs-fit))
 
 -- And: its two parts, the second behind the first.
 front-alone : (k : ℕ) (c : C) (s t : List ℕ) → Front k c s t → Front k c (take (length s - length t) s) []
@@ -153,7 +153,7 @@ module _ (s k n W rows accept free scratch pairs rows₁ accept₁ free₁ : ℕ
       let p = slot-cut in
       let q = slot-rows in
       let m = two-free s k n rows accept free scratch pairs (omega arith) l in
-      rw i ((l.rows_fit, l.accept_fits, omega arith, omega arith), (omega arith, l.scratch-fits, l.pairs-fit))
+      rw i ((l.rows_fit, l.accept-fits, omega arith, omega arith), (omega arith, l.scratch-fits, l.pairs-fit))
 
 -- the shorter part's table finds a slot, before it is cut
 pub one_free : (s k n W rows accept free scratch pairs : ℕ) → W ≡ 2 ^ k → 5 ≤ s → Lent s k n rows accept free scratch pairs → n * W + n ≤ free

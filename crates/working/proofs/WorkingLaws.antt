@@ -79,7 +79,7 @@ columns-few k h = let p : 2 ^ k ≤ 2 ^ 12 = pow_mono h in let q = pow_pos k in 
 
 -- Room: a shorter part needs no more.
 pub lent-shorter : (s t k n rows accept free scratch pairs : ℕ) → t ≤ s → Lent s k n rows accept free scratch pairs → Lent t k n rows accept free scratch pairs
-lent-shorter s t k n rows accept free scratch pairs h l = record { slots = l.slots; bytes = omega (arith, l.bytes); rows_fit = l.rows_fit; accept-fits = l.accept_fits; free-fits = l.free-fits; scratch-fits = l.scratch-fits; pairs-fit = l.pairs-fit }
+lent-shorter s t k n rows accept free scratch pairs h l = record { slots = l.slots; bytes = omega (arith, l.bytes); rows_fit = l.rows_fit; accept-fits = l.accept-fits; free-fits = l.free-fits; scratch-fits = l.scratch-fits; pairs-fit = l.pairs-fit }
 
 -- a part of four bytes or more has three slots at least: two are free beside its own table
 slots-three : (h : ℕ) → 4 ≤ 2 ^ h → 3 ≤ suc h

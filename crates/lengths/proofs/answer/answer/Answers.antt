@@ -11,12 +11,7 @@ cut_scratch-queue-requires c =
     let (p, q) = columns-few c.args.k (omega arith) in
     (omega arith, omega arith, omega arith, omega arith, omega arith)
 
-pub invariant-of-t : goal.invariant-of-t
-invariant-of-t c =
-    let w : (1 * 2 ^ c.args.k) % 2 ^ 64 ≡ 2 ^ c.args.k = one_shl c.args.k 64 (omega arith) in
-    let s = c.requires.stands.1 in
-    let m = mul-le c.args.m (2 ^ c.args.k) c.args.most (2 ^ c.args.k) s.0 (omega arith) in
-    (rw w (omega arith), (omega arith, (stands-below c.args.k c.args.most _ c.requires.stands.0 c.args.rows.now c.args.accept.now c.args.m w s, tt)))
+
 
 pub returns-in_default : goal.returns-in_default
 returns-in_default c d t =

@@ -16,19 +16,9 @@ cut_slot-pair_rows-requires c =
     let (p, q) = columns-few c.args.k (omega arith) in
     (rw w (omega arith), omega arith, omega arith)
 
-pub invariant-of-left : goal.invariant-of-left
-invariant-of-left c =
-    let w : (1 * 2 ^ c.args.k) % 2 ^ 64 ≡ 2 ^ c.args.k = one_shl c.args.k 64 (omega arith) in
-    let s = c.requires.first.1 in
-    let m = mul-le c.args.m (2 ^ c.args.k) c.args.most (2 ^ c.args.k) s.0 (omega arith) in
-    (rw w (omega arith), (omega arith, (stands-below c.args.k c.args.most _ c.requires.first.0 c.args.rows.now c.args.accept.now c.args.m w s, tt)))
 
-pub invariant-of-right : goal.invariant-of-right
-invariant-of-right c =
-    let w : (1 * 2 ^ c.args.k) % 2 ^ 64 ≡ 2 ^ c.args.k = one_shl c.args.k 64 (omega arith) in
-    let s = c.requires.second.1 in
-    let m = mul-le c.args.n (2 ^ c.args.k) c.args.most (2 ^ c.args.k) s.0 (omega arith) in
-    (rw w (omega arith), (omega arith, (stands-below c.args.k c.args.most _ c.requires.second.0 c.args.other_rows.now c.args.other_accept.now c.args.n w s, tt)))
+
+
 
 pub product-requires : goal.product-requires
 product-requires c =
@@ -46,12 +36,7 @@ product-requires c =
 pub returns-in_err-count : goal.returns-in_err-count
 returns-in_err-count c = rw c.from_residual.ensures (λ a b s t. conjoin-many c.args.k c.args.most _ (one_shl c.args.k 64 (omega arith)) a b c.args.m c.args.n c.args.rows.now c.args.accept.now c.args.other_rows.now c.args.other_accept.now s t c.in_err-count.ensures)
 
-pub invariant-of-both : goal.invariant-of-both
-invariant-of-both c =
-    let w : (1 * 2 ^ c.args.k) % 2 ^ 64 ≡ 2 ^ c.args.k = one_shl c.args.k 64 (omega arith) in
-    let p = c.in_ok-count.ensures in
-    let m = mul-le c.in_ok-count.count ((1 * 2 ^ c.args.k) % 2 ^ 64) c.args.most ((1 * 2 ^ c.args.k) % 2 ^ 64) p.few (omega arith) in
-    (omega arith, (omega (arith, p.few), (λ q a h g. p.explored.connected.closed q a h (subst (λ z. a < z) w g), tt)))
+
 
 pub join_into-requires : goal.join_into-requires
 join_into-requires c =

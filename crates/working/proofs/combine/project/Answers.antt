@@ -17,12 +17,7 @@ cut_slot-set_rows-requires c =
     let (p, q) = columns-few c.args.k (omega arith) in
     (rw w (omega arith), omega arith, omega arith)
 
-pub invariant-of-part : goal.invariant-of-part
-invariant-of-part c =
-    let w : (1 * 2 ^ c.args.k) % 2 ^ 64 ≡ 2 ^ c.args.k = one_shl c.args.k 64 (omega arith) in
-    let s = c.requires.part.1 in
-    let m = mul-le c.args.m (2 ^ c.args.k) c.args.most (2 ^ c.args.k) s.0 (omega arith) in
-    (rw w (omega arith), (omega arith, (stands-below c.args.k c.args.most _ c.requires.part.0 c.args.rows.now c.args.accept.now c.args.m w s, tt)))
+
 
 pub dead-dead_class-requires : goal.dead-dead_class-requires
 dead-dead_class-requires c =
@@ -54,12 +49,7 @@ pub returns-in_err-count : goal.returns-in_err-count
 returns-in_err-count c = rw c.from_residual.ensures (λ a s. project-many c.args.k c.args.most _ (one_shl c.args.k 64 (omega arith)) a c.args.m c.args.rows.now c.args.accept.now s
     c.args.x.0 (omega arith) c.dead-dead_class.result c.dead-dead_class.ensures.live c.in_err-count.ensures)
 
-pub invariant-of-sets : goal.invariant-of-sets
-invariant-of-sets c =
-    let w : (1 * 2 ^ c.args.k) % 2 ^ 64 ≡ 2 ^ c.args.k = one_shl c.args.k 64 (omega arith) in
-    let p = c.in_ok-count.ensures in
-    let m = mul-le c.in_ok-count.count ((1 * 2 ^ c.args.k) % 2 ^ 64) c.args.most ((1 * 2 ^ c.args.k) % 2 ^ 64) p.few (omega arith) in
-    (omega arith, (omega (arith, p.few), (λ q a h g. rw w (p.explored.connected.closed q a h (subst (λ z. a < z) w g)), tt)))
+
 
 pub join_into-requires : goal.join_into-requires
 join_into-requires c =

@@ -74,21 +74,21 @@ work_out-requires t c =
     let (less, (d, f, g)) = not-part c.args.k c.in_ok-sign.sign c.args.part.now c.in_ok-sign.rest.now c.in_ok-sign.ensures c.in-Not.is c.requires.part in
     (omega arith, ((d, f), (c.requires.small, lent-shorter (length c.args.part.now) (length c.in_ok-sign.rest.now) c.args.k c.args.most _ _ _ _ _ (omega arith) c.requires.lent)))
 
-pub returns-in_err-m : goal.returns-in_err-m
-returns-in_err-m t c =
+pub returns-in_err-m-in-Not : goal.returns-in_err-m-in-Not
+returns-in_err-m-in-Not t c =
     let (less, (d, f, g)) = not-part c.args.k c.in_ok-sign.sign c.args.part.now c.in_ok-sign.rest.now c.in_ok-sign.ensures c.in-Not.is c.requires.part in
-    rw c.from_residual-in_err-m.ensures (part-unfit c.args.k c.args.most (not1 d) d c.args.part.now c.in_ok-sign.rest.now g f (λ h. h) c.in_err-m.ensures)
+    rw c.from_residual-in_err-m-in-Not.ensures (part-unfit c.args.k c.args.most (not1 d) d c.args.part.now c.in_ok-sign.rest.now g f (λ h. h) c.in_err-m-in-Not.ensures)
 
 pub complement-requires : goal.complement-requires
 complement-requires t c =
     let (less, (d, f, g)) = not-part c.args.k c.in_ok-sign.sign c.args.part.now c.in_ok-sign.rest.now c.in_ok-sign.ensures c.in-Not.is c.requires.part in
-    omega (arith, (c.in_ok-m.ensures d f).0, c.requires.lent.accept_fits, c.work_out.auto.accept)
+    omega (arith, (c.in_ok-m-in-Not.ensures d f).0, c.requires.lent.accept-fits, c.work_out.auto.accept)
 
-pub returns-in_ok-m : goal.returns-in_ok-m
-returns-in_ok-m t c =
+pub returns-in_ok-m-in-Not : goal.returns-in_ok-m-in-Not
+returns-in_ok-m-in-Not t c =
     let (less, (d, f, g)) = not-part c.args.k c.in_ok-sign.sign c.args.part.now c.in_ok-sign.rest.now c.in_ok-sign.ensures c.in-Not.is c.requires.part in
-    out_of c.args.k c.args.most (not1 d) c.args.part.now c.work_out.new.rows c.complement.new.accept (Some c.in_ok-m.m) g
-    (not-stands c.args.k c.args.most d c.work_out.new.rows c.work_out.new.accept c.complement.new.accept c.in_ok-m.m (c.in_ok-m.ensures d f) c.complement.ensures.turned)
+    out_of c.args.k c.args.most (not1 d) c.args.part.now c.work_out.new.rows c.complement.new.accept (Some c.in_ok-m-in-Not.m) g
+    (not-stands c.args.k c.args.most d c.work_out.new.rows c.work_out.new.accept c.complement.new.accept c.in_ok-m-in-Not.m (c.in_ok-m-in-Not.ensures d f) c.complement.ensures.turned)
 
 -- and
 pub work_out-requires-in-And : goal.work_out-requires-in-And
@@ -96,10 +96,10 @@ work_out-requires-in-And t c =
     let h = and_parts c.args.k c.in_ok-sign.sign c.args.part.now c.in_ok-sign.rest.now c.two_parts.result.0.now c.two_parts.result.1.now c.in_ok-sign.ensures c.in-And.is c.two_parts.ensures in
     (omega arith, ((h.one, h.long), (c.requires.small, lent-shorter (length c.args.part.now) (length c.two_parts.result.0.now) c.args.k c.args.most _ _ _ _ _ (omega arith) c.requires.lent)))
 
-pub returns-in_err-m-2 : goal.returns-in_err-m-2
-returns-in_err-m-2 t c =
+pub returns-in_err-m-in-And : goal.returns-in_err-m-in-And
+returns-in_err-m-in-And t c =
     let h = and_parts c.args.k c.in_ok-sign.sign c.args.part.now c.in_ok-sign.rest.now c.two_parts.result.0.now c.two_parts.result.1.now c.in_ok-sign.ensures c.in-And.is c.two_parts.ensures in
-    rw c.from_residual-in_err-m-2.ensures (longer-unfit c.args.k c.args.most c.args.part.now c.two_parts.result.0.now c.two_parts.result.1.now h c.in_err-m-2.ensures)
+    rw c.from_residual-in_err-m-in-And.ensures (longer-unfit c.args.k c.args.most c.args.part.now c.two_parts.result.0.now c.two_parts.result.1.now h c.in_err-m-in-And.ensures)
 
 pub cut_slot-other_rows-requires : goal.cut_slot-other_rows-requires
 cut_slot-other_rows-requires t c =
@@ -120,10 +120,10 @@ work_out-requires-in-And-2 t c =
     (length c.two_parts.result.1.now) (length c.work_out-in-And.new.scratch) (length c.work_out-in-And.new.pairs) h.half (omega (arith, c.work_out-in-And.auto.scratch)) (omega (arith, c.work_out-in-And.auto.pairs)) in
     (omega arith, ((h.other, h.short), (c.requires.small, o)))
 
-pub returns-in_err-n : goal.returns-in_err-n
-returns-in_err-n t c =
+pub returns-in_err-n-in-And : goal.returns-in_err-n-in-And
+returns-in_err-n-in-And t c =
     let h = and_parts c.args.k c.in_ok-sign.sign c.args.part.now c.in_ok-sign.rest.now c.two_parts.result.0.now c.two_parts.result.1.now c.in_ok-sign.ensures c.in-And.is c.two_parts.ensures in
-    rw c.from_residual-in_err-n.ensures (shorter-unfit c.args.k c.args.most c.args.part.now c.two_parts.result.0.now c.two_parts.result.1.now h c.in_err-n.ensures)
+    rw c.from_residual-in_err-n-in-And.ensures (shorter-unfit c.args.k c.args.most c.args.part.now c.two_parts.result.0.now c.two_parts.result.1.now h c.in_err-n-in-And.ensures)
 
 pub conjoin-requires : goal.conjoin-requires
 conjoin-requires t c =
@@ -134,18 +134,18 @@ conjoin-requires t c =
     c.cut_slot-other_rows.ensures.rows c.cut_slot-other_rows.ensures.accept (omega (arith, c.cut_slot-other_rows.ensures.rest, c.work_out-in-And.auto.free)) c.from-sets.result i h.bytes in
     record {
       small = (omega arith, omega arith, omega arith);
-      first = (h.one, stands-sets c.args.k c.from-sets.result c.args.most h.one _ _ c.in_ok-m-2.m i (c.in_ok-m-2.ensures h.one h.long));
-      second = (h.other, stands-sets c.args.k c.from-sets.result c.args.most h.other _ _ c.in_ok-n.n i (c.in_ok-n.ensures h.other h.short));
+      first = (h.one, stands-sets c.args.k c.from-sets.result c.args.most h.one _ _ c.in_ok-m-in-And.m i (c.in_ok-m-in-And.ensures h.one h.long));
+      second = (h.other, stands-sets c.args.k c.from-sets.result c.args.most h.other _ _ c.in_ok-n-in-And.n i (c.in_ok-n-in-And.ensures h.other h.short));
       room = (omega (arith, c.work_out-in-And.auto.rows), omega (arith, c.work_out-in-And.auto.accept), omega (arith, c.work_out-in-And-2.auto.rows), omega (arith, c.work_out-in-And-2.auto.accept));
       scratch = (omega (arith, c.work_out-in-And-2.auto.free), omega (arith, c.work_out-in-And.auto.scratch, c.work_out-in-And-2.auto.scratch), omega (arith, c.work_out-in-And.auto.pairs, c.work_out-in-And-2.auto.pairs));
     }
 
-pub returns-in_ok-n : goal.returns-in_ok-n
-returns-in_ok-n t c =
+pub returns-in_ok-n-in-And : goal.returns-in_ok-n-in-And
+returns-in_ok-n-in-And t c =
     let h = and_parts c.args.k c.in_ok-sign.sign c.args.part.now c.in_ok-sign.rest.now c.two_parts.result.0.now c.two_parts.result.1.now c.in_ok-sign.ensures c.in-And.is c.two_parts.ensures in
     let i = c.from-sets.ensures in
-    let a = stands-sets c.args.k c.from-sets.result c.args.most h.one _ _ c.in_ok-m-2.m i (c.in_ok-m-2.ensures h.one h.long) in
-    let b = stands-sets c.args.k c.from-sets.result c.args.most h.other _ _ c.in_ok-n.n i (c.in_ok-n.ensures h.other h.short) in
+    let a = stands-sets c.args.k c.from-sets.result c.args.most h.one _ _ c.in_ok-m-in-And.m i (c.in_ok-m-in-And.ensures h.one h.long) in
+    let b = stands-sets c.args.k c.from-sets.result c.args.most h.other _ _ c.in_ok-n-in-And.n i (c.in_ok-n-in-And.ensures h.other h.short) in
     and-out c.args.k c.args.most c.args.part.now c.two_parts.result.0.now c.two_parts.result.1.now h c.conjoin.new.rows c.conjoin.new.accept c.conjoin.result
     (result-sets c.args.k c.from-sets.result c.args.most (and1 h.one h.other) c.conjoin.new.rows c.conjoin.new.accept c.conjoin.result i (c.conjoin.ensures h.one h.other a b))
 
@@ -155,10 +155,10 @@ work_out-requires-in-Some t c =
     let (x, b, less, (d, f, g)) = some-part c.args.k c.in_ok-sign.sign c.in-Some.x c.args.part.now c.in_ok-sign.rest.now c.in_ok-sign.ensures c.in-Some.is c.requires.part in
     (omega arith, ((d, f), (c.requires.small, lent-shorter (length c.args.part.now) (length c.in_ok-sign.rest.now) c.args.k c.args.most _ _ _ _ _ (omega arith) c.requires.lent)))
 
-pub returns-in_err-m-3 : goal.returns-in_err-m-3
-returns-in_err-m-3 t c =
+pub returns-in_err-m-in-Some : goal.returns-in_err-m-in-Some
+returns-in_err-m-in-Some t c =
     let (x, b, less, (d, f, g)) = some-part c.args.k c.in_ok-sign.sign c.in-Some.x c.args.part.now c.in_ok-sign.rest.now c.in_ok-sign.ensures c.in-Some.is c.requires.part in
-    rw c.from_residual-in_err-m-3.ensures (part-unfit c.args.k c.args.most (some c.in-Some.x.0 d) d c.args.part.now c.in_ok-sign.rest.now g f (λ h. h.0) c.in_err-m-3.ensures)
+    rw c.from_residual-in_err-m-in-Some.ensures (part-unfit c.args.k c.args.most (some c.in-Some.x.0 d) d c.args.part.now c.in_ok-sign.rest.now g f (λ h. h.0) c.in_err-m-in-Some.ensures)
 
 pub project-requires : goal.project-requires
 project-requires t c =
@@ -167,14 +167,14 @@ project-requires t c =
     let (r, q) = some-room (length c.args.part.now) c.args.k c.from-sets.result c.args.most _ _ _ _ _ i b c.requires.lent in
     record {
       small = (omega arith, omega arith, omega arith, omega arith);
-      part = (d, stands-sets c.args.k c.from-sets.result c.args.most d _ _ c.in_ok-m-3.m i (c.in_ok-m-3.ensures d f));
+      part = (d, stands-sets c.args.k c.from-sets.result c.args.most d _ _ c.in_ok-m-in-Some.m i (c.in_ok-m-in-Some.ensures d f));
       room = (omega (arith, c.work_out-in-Some.auto.rows), omega (arith, c.work_out-in-Some.auto.accept));
       scratch = (omega (arith, c.work_out-in-Some.auto.free), omega (arith, c.work_out-in-Some.auto.scratch), omega (arith, c.work_out-in-Some.auto.pairs));
     }
 
-pub returns-in_ok-m-3 : goal.returns-in_ok-m-3
-returns-in_ok-m-3 t c =
+pub returns-in_ok-m-in-Some : goal.returns-in_ok-m-in-Some
+returns-in_ok-m-in-Some t c =
     let (x, b, less, (d, f, g)) = some-part c.args.k c.in_ok-sign.sign c.in-Some.x c.args.part.now c.in_ok-sign.rest.now c.in_ok-sign.ensures c.in-Some.is c.requires.part in
     let i = c.from-sets.ensures in
-    let s = stands-sets c.args.k c.from-sets.result c.args.most d _ _ c.in_ok-m-3.m i (c.in_ok-m-3.ensures d f) in
+    let s = stands-sets c.args.k c.from-sets.result c.args.most d _ _ c.in_ok-m-in-Some.m i (c.in_ok-m-in-Some.ensures d f) in
     out_of c.args.k c.args.most (some c.in-Some.x.0 d) c.args.part.now _ _ _ g (result-sets c.args.k c.from-sets.result c.args.most (some c.in-Some.x.0 d) _ _ _ i (c.project.ensures d s))
