@@ -4,13 +4,13 @@ use Rattle.words.specs.Words.{Columns, Word}
 use Rattle.claims.specs.Claims.{C, Holds, Of, and1, before, next, not1, single, some, within}
 use Rattle.claims.specs.Laws.{Told}
 use Rattle.claims.specs.Rows.{ok}
-use Rattle.claims.proofs.FrontLaws.{both-passed}
-use Rattle.automata.specs.Machines.{Kind, before-kind, claim, machine, next-kind, single-kind, within-kind}
-use Rattle.automata.proofs.Agreement.{Some-but}
-use Rattle.automata.proofs.Beyond.{Beyond, some-beyond}
-use Rattle.automata.proofs.Machines.{leaf-regular}
-use Rattle.automata.proofs.Projection.{regular-but, regular-zeros}
-use Rattle.automata.proofs.Regular.{Regular, regular-and, regular-iff, regular-not}
+use Rattle.claims.proofs.FrontLaws.{both_passed}
+use Rattle.automata.specs.Machines.{Kind, before_kind, claim, machine, next_kind, single_kind, within_kind}
+use Rattle.automata.proofs.Agreement.{SomeBut}
+use Rattle.automata.proofs.Beyond.{Beyond, some_beyond}
+use Rattle.automata.proofs.Machines.{leaf_regular}
+use Rattle.automata.proofs.Projection.{regular_but, regular_zeros}
+use Rattle.automata.proofs.Regular.{Regular, regular_and, regular_iff, regular_not}
 use Rattle.automata.proofs.Residuals.{leaf}
 
 -- the sets under some are among the k
@@ -29,31 +29,31 @@ bound k (single x) t = tt
 bound k (next x y) t = tt
 bound k (before x y) t = tt
 bound k (not1 c) t = bound k c t
-bound k (and1 c d) t = let (a, b) = both-passed (ok k c) (ok k d) t in (bound k c a, bound k d b)
-bound k (some x c) t = let (a, b) = both-passed (ltb x k) (ok k c) t in (ltb→lt x k a, bound k c b)
+bound k (and1 c d) t = let (a, b) = both_passed (ok k c) (ok k d) t in (bound k c a, bound k d b)
+bound k (some x c) t = let (a, b) = both_passed (ltb x k) (ok k c) t in (ltb→lt x k a, bound k c b)
 
-regular-leaf : (k : ℕ) (a : Kind) → Regular k (Of (claim a))
-regular-leaf k a = leaf-regular k (Holds (claim a)) (machine a) (leaf a)
+regular_leaf : (k : ℕ) (a : Kind) → Regular k (Of (claim a))
+regular_leaf k a = leaf_regular k (Holds (claim a)) (machine a) (leaf a)
 
 pub regular : (k : ℕ) (c : C) → Bound k c → Regular k (Of c)
-regular k (within x y) t = regular-leaf k (within-kind x y)
-regular k (single x) t = regular-leaf k (single-kind x)
-regular k (next x y) t = regular-leaf k (next-kind x y)
-regular k (before x y) t = regular-leaf k (before-kind x y)
-regular k (not1 c) t = regular-not k (Of c) (regular k c t)
-regular k (and1 c d) t = regular-and k (Of c) (Of d) (regular k c t.0) (regular k d t.1)
+regular k (within x y) t = regular_leaf k (within_kind x y)
+regular k (single x) t = regular_leaf k (single_kind x)
+regular k (next x y) t = regular_leaf k (next_kind x y)
+regular k (before x y) t = regular_leaf k (before_kind x y)
+regular k (not1 c) t = regular_not k (Of c) (regular k c t)
+regular k (and1 c d) t = regular_and k (Of c) (Of d) (regular k c t.0) (regular k d t.1)
 regular k (some x c) t =
-    regular-iff k (Beyond x (Of c)) (Of (some x c)) (λ w h. ((some-beyond x c w).1, (some-beyond x c w).0))
-    (regular-zeros k (λ w. Some-but x w (Of c)) (regular-but k x (Of c) t.0 (regular k c t.1)))
+    regular_iff k (Beyond x (Of c)) (Of (some x c)) (λ w h. ((some_beyond x c w).1, (some_beyond x c w).0))
+    (regular_zeros k (λ w. SomeBut x w (Of c)) (regular_but k x (Of c) t.0 (regular k c t.1)))
 
 -- Any word and any claim are about some number of sets.
-below-pow : (k : ℕ) → k < 2 ^ k
-below-pow zero = omega arith
-below-pow (suc k) = omega (arith, below-pow k, pow-suc 2 k)
+below_pow : (k : ℕ) → k < 2 ^ k
+below_pow zero = omega arith
+below_pow (suc k) = omega (arith, below_pow k, pow-suc 2 k)
 
 wide : (w : Word) → (n : ℕ) × ((k : ℕ) → n ≤ k → Columns k w)
 wide [] = (0, λ k h. tt)
-wide (a ∷ w) = let (n, f) = wide w in (a + n, λ k h. (omega (arith, below-pow k), f k (omega arith)))
+wide (a ∷ w) = let (n, f) = wide w in (a + n, λ k h. (omega (arith, below_pow k), f k (omega arith)))
 
 room : (c : C) → (n : ℕ) × ((k : ℕ) → n ≤ k → Bound k c)
 room (within x y) = (0, λ k h. tt)

@@ -1,123 +1,123 @@
 -- Working a claim out, part by part: what each part hands on, or that the claim does not fit.
 use Rattle.std.proofs.Common.{◌≡◌, ℕ, ◌<◌, ◌≤◌, Bool, true, false, not, ◌&&◌, ◌↔◌, List, ◌++◌, length, sym, refl, ap, ◌∙◌}
 use mathlib.Core.Bool.{false≢true}
-use Rattle.words.specs.Languages.{Classes, Lang, Same-left}
+use Rattle.words.specs.Languages.{Classes, Lang, SameLeft}
 use Rattle.words.specs.Words.{Columns, Word}
 use Rattle.claims.specs.Claims.{C, Holds, Of, and1, not1, some}
 use Rattle.claims.specs.Sizes.{Apart, Fits}
 use Rattle.automata.specs.Joined.{Joined, Written}
-use Rattle.automata.specs.Machines.{Kind, before-kind, claim, machine, moves, next-kind, single-kind, within-kind}
-use Rattle.automata.specs.Product.{Pair, left, pair, right, step-pair}
-use Rattle.automata.specs.Search.{Explored, Too-many}
-use Rattle.automata.specs.Subsets.{Completes, Live, accepts-set, start-set, step_set}
+use Rattle.automata.specs.Machines.{Kind, before_kind, claim, machine, moves, next_kind, single_kind, within_kind}
+use Rattle.automata.specs.Product.{Pair, left, pair, right, step_pair}
+use Rattle.automata.specs.Search.{Explored, TooMany}
+use Rattle.automata.specs.Subsets.{Completes, Live, accepts_set, start_set, step_set}
 use Rattle.automata.specs.Tables.{Collapsed, Exact, Table, run}
 use Rattle.automata.specs.Worked.{Worked}
-use Rattle.automata.proofs.Beyond.{Beyond, some-beyond}
-use Rattle.automata.proofs.Decisions.{not_same, not-true}
-use Rattle.automata.proofs.Explored.{explored-exact, explored-table}
+use Rattle.automata.proofs.Beyond.{Beyond, some_beyond}
+use Rattle.automata.proofs.Decisions.{not_same, not_true}
+use Rattle.automata.proofs.Explored.{explored_exact, explored_table}
 use Rattle.automata.proofs.Exploring.{too_many}
-use Rattle.automata.proofs.Joined.{written-collapsed, written-table}
-use Rattle.automata.proofs.Machines.{leaf-table}
-use Rattle.automata.proofs.Product.{product-exact, product-from, product-table, product-to}
+use Rattle.automata.proofs.Joined.{written_collapsed, written_table}
+use Rattle.automata.proofs.Machines.{leaf_table}
+use Rattle.automata.proofs.Product.{product_exact, product_from, product_table, product_to}
 use Rattle.automata.proofs.Residuals.{leaf}
-use Rattle.automata.proofs.Subsets.{accepts-says, but-left, subset-apart, subset-ext, subset-same, subset-says}
-use Rattle.automata.proofs.Tables.{collapsed-same, exact-many, exact-top, run-below, table-exact, table_same}
+use Rattle.automata.proofs.Subsets.{accepts_says, but_left, subset_apart, subset_ext, subset_same, subset_says}
+use Rattle.automata.proofs.Tables.{collapsed_same, exact_many, exact_top, run_below, table_exact, table_same}
 
 -- A claim without parts tells apart what leaves something different of it, and fits where its classes do.
-pub leaf-top : (k n : ℕ) (a : Kind) → ((ws : List Word) × Classes k (Same-left k (Of (claim a))) ws × (length ws ≤ n)) ↔ Fits k n (claim a)
-leaf-top k n (within-kind x y) = (λ t. t, λ t. t)
-leaf-top k n (single-kind x) = (λ t. t, λ t. t)
-leaf-top k n (next-kind x y) = (λ t. t, λ t. t)
-leaf-top k n (before-kind x y) = (λ t. t, λ t. t)
+pub leaf_top : (k n : ℕ) (a : Kind) → ((ws : List Word) × Classes k (SameLeft k (Of (claim a))) ws × (length ws ≤ n)) ↔ Fits k n (claim a)
+leaf_top k n (within_kind x y) = (λ t. t, λ t. t)
+leaf_top k n (single_kind x) = (λ t. t, λ t. t)
+leaf_top k n (next_kind x y) = (λ t. t, λ t. t)
+leaf_top k n (before_kind x y) = (λ t. t, λ t. t)
 
 -- Its classes are those of its machine's table, searched and joined: g is the acceptance that the joining saw.
 module _ (k n : ℕ) (a : Kind) (m : ℕ) (at : ℕ → ℕ) (δ : ℕ → ℕ → ℕ) (g : ℕ → Bool) (e : Explored k (moves (machine a)) (machine a).start m at δ) (same : (q : ℕ) → q < m → g q ≡ (machine a).ends (at q)) (cls rep : ℕ → ℕ) (o : ℕ) (j : Joined k m δ g cls rep o) where
   module _ (δ' : ℕ → ℕ → ℕ) (f' : ℕ → Bool) (w : Written k δ g cls rep o δ' f') where
-    leaf-written : Table k (Of (claim a)) o δ' f'
-    leaf-written = written-table k m δ (λ q. (machine a).ends (at q)) g cls rep o δ' f' e.connected j same w (Of (claim a)) (leaf-table k (Holds (claim a)) (machine a) (leaf a) m at δ e)
+    leaf_written : Table k (Of (claim a)) o δ' f'
+    leaf_written = written_table k m δ (λ q. (machine a).ends (at q)) g cls rep o δ' f' e.connected j same w (Of (claim a)) (leaf_table k (Holds (claim a)) (machine a) (leaf a) m at δ e)
 
-    leaf-collapsed : Collapsed k o δ' f'
-    leaf-collapsed = written-collapsed k m δ (λ q. (machine a).ends (at q)) g cls rep o δ' f' e.connected j same w
+    leaf_collapsed : Collapsed k o δ' f'
+    leaf_collapsed = written_collapsed k m δ (λ q. (machine a).ends (at q)) g cls rep o δ' f' e.connected j same w
 
-    leaf-exact : Exact k (Same-left k (Of (claim a))) o δ'
-    leaf-exact = table-exact k (Of (claim a)) o δ' f' leaf-written leaf-collapsed
+    leaf_exact : Exact k (SameLeft k (Of (claim a))) o δ'
+    leaf_exact = table_exact k (Of (claim a)) o δ' f' leaf_written leaf_collapsed
 
-    pub worked-leaf : o ≤ n → Worked k n (claim a) o δ' f'
-    worked-leaf h = record { table = leaf-written; collapsed = leaf-collapsed; fits = (leaf-top k n a).0 (exact-top k (Same-left k (Of (claim a))) o n δ' leaf-exact h) }
+    pub worked_leaf : o ≤ n → Worked k n (claim a) o δ' f'
+    worked_leaf h = record { table = leaf_written; collapsed = leaf_collapsed; fits = (leaf_top k n a).0 (exact_top k (SameLeft k (Of (claim a))) o n δ' leaf_exact h) }
 
-  pub many-leaf : n < o → Fits k n (claim a) → ⊥
-  many-leaf h t =
-      exact-many k (Same-left k (Of (claim a))) o n (λ i b. cls (δ (rep i) b)) (leaf-exact (λ i b. cls (δ (rep i) b)) (λ i. g (rep i)) record { steps = λ i b _ _. refl; accepts = λ i _. refl }) h ((leaf-top k n a).1 t)
+  pub many_leaf : n < o → Fits k n (claim a) → ⊥
+  many_leaf h t =
+      exact_many k (SameLeft k (Of (claim a))) o n (λ i b. cls (δ (rep i) b)) (leaf_exact (λ i b. cls (δ (rep i) b)) (λ i. g (rep i)) record { steps = λ i b _ _. refl; accepts = λ i _. refl }) h ((leaf_top k n a).1 t)
 
 -- not: the same classes
 pub not_table : (k : ℕ) (L : Lang) (m : ℕ) (δ : ℕ → ℕ → ℕ) (f : ℕ → Bool) → Table k L m δ f → Table k (λ w. L w → ⊥) m δ (λ q. not (f q))
 not_table k L m δ f t = record {
   connected = t.connected;
   says = λ w h.
-      (let s = t.says w h in let n = not-true (f (run δ 0 w)) in (λ e l. n.0 e (s.1 l), λ g. n.1 (λ e. g (s.0 e))));
+      (let s = t.says w h in let n = not_true (f (run δ 0 w)) in (λ e l. n.0 e (s.1 l), λ g. n.1 (λ e. g (s.0 e))));
 }
 
 pub worked_not : (k n : ℕ) (c : C) (m : ℕ) (δ : ℕ → ℕ → ℕ) (f g : ℕ → Bool) → Worked k n c m δ f → ((q : ℕ) → q < m → g q ≡ not (f q)) → Worked k n (not1 c) m δ g
 worked_not k n c m δ f g t e = record {
   table = table_same k (Of (not1 c)) m δ δ (λ q. not (f q)) g (not_table k (Of c) m δ f t.table) (λ q a _ _. refl) e;
   fits = t.fits;
-  collapsed = collapsed-same k m δ δ (λ q. not (f q)) g t.table.connected (λ p q hp hq a. t.collapsed p q hp hq (λ x hx. not_same (f (run δ p x)) (f (run δ q x)) (a x hx))) (λ q a _ _. refl) e;
+  collapsed = collapsed_same k m δ δ (λ q. not (f q)) g t.table.connected (λ p q hp hq a. t.collapsed p q hp hq (λ x hx. not_same (f (run δ p x)) (f (run δ q x)) (a x hx))) (λ q a _ _. refl) e;
 }
 
 -- and: the pairs of classes; g is the acceptance that the joining saw
 module _ (k n : ℕ) (c e : C) (m m₁ : ℕ) (δ δ₁ : ℕ → ℕ → ℕ) (f f₁ : ℕ → Bool) (t : Worked k n c m δ f) (t₁ : Worked k n e m₁ δ₁ f₁) where
-  exact-c : Exact k (Same-left k (Of c)) m δ
-  exact-c = table-exact k (Of c) m δ f t.table t.collapsed
+  exact_c : Exact k (SameLeft k (Of c)) m δ
+  exact_c = table_exact k (Of c) m δ f t.table t.collapsed
 
-  exact-e : Exact k (Same-left k (Of e)) m₁ δ₁
-  exact-e = table-exact k (Of e) m₁ δ₁ f₁ t₁.table t₁.collapsed
+  exact_e : Exact k (SameLeft k (Of e)) m₁ δ₁
+  exact_e = table_exact k (Of e) m₁ δ₁ f₁ t₁.table t₁.collapsed
 
-  pub worked-and : (o : ℕ) (at : ℕ → Pair) (γ : ℕ → ℕ → ℕ) (g : ℕ → Bool) → Explored k (step-pair δ δ₁) (pair 0 0) o at γ → o ≤ n → ((i : ℕ) → i < o → g i ≡ (f (left (at i)) && f₁ (right (at i)))) → (cls rep : ℕ → ℕ) (r : ℕ) → Joined k o γ g cls rep r → (δ' : ℕ → ℕ → ℕ) (f' : ℕ → Bool) → Written k γ g cls rep r δ' f' → Worked k n (and1 c e) r δ' f'
-  worked-and o at γ g x h same cls rep r j δ' f' w =
+  pub worked_and : (o : ℕ) (at : ℕ → Pair) (γ : ℕ → ℕ → ℕ) (g : ℕ → Bool) → Explored k (step_pair δ δ₁) (pair 0 0) o at γ → o ≤ n → ((i : ℕ) → i < o → g i ≡ (f (left (at i)) && f₁ (right (at i)))) → (cls rep : ℕ → ℕ) (r : ℕ) → Joined k o γ g cls rep r → (δ' : ℕ → ℕ → ℕ) (f' : ℕ → Bool) → Written k γ g cls rep r δ' f' → Worked k n (and1 c e) r δ' f'
+  worked_and o at γ g x h same cls rep r j δ' f' w =
       let both : ℕ → Bool = λ i. f (left (at i)) && f₁ (right (at i)) in
       record {
-        table = written-table k o γ both g cls rep r δ' f' x.connected j same w (Of (and1 c e)) (product-table k (Of c) (Of e) m m₁ δ δ₁ f f₁ t.table t₁.table o at γ x);
-        collapsed = written-collapsed k o γ both g cls rep r δ' f' x.connected j same w;
-        fits = (t.fits, t₁.fits, exact-top k (Apart k (and1 c e)) o n γ (product-exact k (Of c) (Of e) m m₁ δ δ₁ exact-c exact-e o at γ x) h);
+        table = written_table k o γ both g cls rep r δ' f' x.connected j same w (Of (and1 c e)) (product_table k (Of c) (Of e) m m₁ δ δ₁ f f₁ t.table t₁.table o at γ x);
+        collapsed = written_collapsed k o γ both g cls rep r δ' f' x.connected j same w;
+        fits = (t.fits, t₁.fits, exact_top k (Apart k (and1 c e)) o n γ (product_exact k (Of c) (Of e) m m₁ δ δ₁ exact_c exact_e o at γ x) h);
       }
 
-  pub many-and : Too-many k (step-pair δ δ₁) (pair 0 0) n → Fits k n (and1 c e) → ⊥
-  many-and y ft = too_many k (step-pair δ δ₁) (pair 0 0) n y (Apart k (and1 c e)) (product-to k (Of c) (Of e) m m₁ δ δ₁ exact-c exact-e) (product-from k (Of c) (Of e) m m₁ δ δ₁ exact-c exact-e) ft.2
+  pub many_and : TooMany k (step_pair δ δ₁) (pair 0 0) n → Fits k n (and1 c e) → ⊥
+  many_and y ft = too_many k (step_pair δ δ₁) (pair 0 0) n y (Apart k (and1 c e)) (product_to k (Of c) (Of e) m m₁ δ δ₁ exact_c exact_e) (product_from k (Of c) (Of e) m m₁ δ δ₁ exact_c exact_e) ft.2
 
 -- some: the sets of live classes; g is the acceptance that the joining saw
 module _ (k n x : ℕ) (c : C) (m : ℕ) (δ : ℕ → ℕ → ℕ) (f : ℕ → Bool) (t : Worked k n c m δ f) (h : x < k) (live : ℕ → Bool) (bounded : (q : ℕ) → live q ≡ true → q < m) (is : (q : ℕ) → q < m → (live q ≡ true) ↔ Live k δ f q) where
-  left-some : (u v : Word) → Same-left k (Beyond x (Of c)) u v → Same-left k (Of (some x c)) u v
-  left-some u v l y hy = (λ p. (some-beyond x c (v ++ y)).1 ((l y hy).0 ((some-beyond x c (u ++ y)).0 p)), λ p. (some-beyond x c (u ++ y)).1 ((l y hy).1 ((some-beyond x c (v ++ y)).0 p)))
+  left_some : (u v : Word) → SameLeft k (Beyond x (Of c)) u v → SameLeft k (Of (some x c)) u v
+  left_some u v l y hy = (λ p. (some_beyond x c (v ++ y)).1 ((l y hy).0 ((some_beyond x c (u ++ y)).0 p)), λ p. (some_beyond x c (u ++ y)).1 ((l y hy).1 ((some_beyond x c (v ++ y)).0 p)))
 
-  some_to : (u v : Word) → Columns k u → Columns k v → run (step_set m δ live x) (start-set live) u ≡ run (step_set m δ live x) (start-set live) v → Apart k (some x c) u v
+  some_to : (u v : Word) → Columns k u → Columns k v → run (step_set m δ live x) (start_set live) u ≡ run (step_set m δ live x) (start_set live) v → Apart k (some x c) u v
   some_to u v hu hv e =
-      let sb = subset-same k x m δ f live h t.table.connected is (Of c) t.table u v hu hv (λ q hq. ap (λ X. X q) e) in
-      (left-some u v (but-left k x (Of c) h u v hu hv sb), sb)
+      let sb = subset_same k x m δ f live h t.table.connected is (Of c) t.table u v hu hv (λ q hq. ap (λ X. X q) e) in
+      (left_some u v (but_left k x (Of c) h u v hu hv sb), sb)
 
-  some-from : (u v : Word) → Columns k u → Columns k v → Apart k (some x c) u v → run (step_set m δ live x) (start-set live) u ≡ run (step_set m δ live x) (start-set live) v
-  some-from u v hu hv a = subset-ext m δ live x bounded u v (subset-apart k x m δ f live h t.table.connected is (Of c) t.table t.collapsed u v hu hv a.1)
+  some_from : (u v : Word) → Columns k u → Columns k v → Apart k (some x c) u v → run (step_set m δ live x) (start_set live) u ≡ run (step_set m δ live x) (start_set live) v
+  some_from u v hu hv a = subset_ext m δ live x bounded u v (subset_apart k x m δ f live h t.table.connected is (Of c) t.table t.collapsed u v hu hv a.1)
 
-  pub many-some : Too-many k (step_set m δ live x) (start-set live) n → Fits k n (some x c) → ⊥
-  many-some y ft = too_many k (step_set m δ live x) (start-set live) n y (Apart k (some x c)) some_to some-from ft.1
+  pub many_some : TooMany k (step_set m δ live x) (start_set live) n → Fits k n (some x c) → ⊥
+  many_some y ft = too_many k (step_set m δ live x) (start_set live) n y (Apart k (some x c)) some_to some_from ft.1
 
-  pub worked-some : (o : ℕ) (at : ℕ → ℕ → Bool) (γ : ℕ → ℕ → ℕ) (completed g : ℕ → Bool) → Explored k (step_set m δ live x) (start-set live) o at γ → o ≤ n → ((q : ℕ) → q < m → (completed q ≡ true) ↔ Completes x δ f q) → ((i : ℕ) → i < o → g i ≡ accepts-set m completed (at i)) → (cls rep : ℕ → ℕ) (r : ℕ) → Joined k o γ g cls rep r → (δ' : ℕ → ℕ → ℕ) (f' : ℕ → Bool) → Written k γ g cls rep r δ' f' → Worked k n (some x c) r δ' f'
-  worked-some o at γ completed g e few ha same cls rep r j δ' f' w =
-      let acc : (ℕ → Bool) → Bool = accepts-set m completed in
-      let tb : Table k (Of (some x c)) o γ (λ i. acc (at i)) = explored-table k (step_set m δ live x) (start-set live) o at γ e (Of (some x c)) acc (λ w hw.
-      (let l = subset-says k x m δ f live h t.table.connected is (Of c) t.table w hw in
-      let y = accepts-says m completed (Completes x δ f) ha (run (step_set m δ live x) (start-set live) w) in
-      let z = some-beyond x c w in
+  pub worked_some : (o : ℕ) (at : ℕ → ℕ → Bool) (γ : ℕ → ℕ → ℕ) (completed g : ℕ → Bool) → Explored k (step_set m δ live x) (start_set live) o at γ → o ≤ n → ((q : ℕ) → q < m → (completed q ≡ true) ↔ Completes x δ f q) → ((i : ℕ) → i < o → g i ≡ accepts_set m completed (at i)) → (cls rep : ℕ → ℕ) (r : ℕ) → Joined k o γ g cls rep r → (δ' : ℕ → ℕ → ℕ) (f' : ℕ → Bool) → Written k γ g cls rep r δ' f' → Worked k n (some x c) r δ' f'
+  worked_some o at γ completed g e few ha same cls rep r j δ' f' w =
+      let acc : (ℕ → Bool) → Bool = accepts_set m completed in
+      let tb : Table k (Of (some x c)) o γ (λ i. acc (at i)) = explored_table k (step_set m δ live x) (start_set live) o at γ e (Of (some x c)) acc (λ w hw.
+      (let l = subset_says k x m δ f live h t.table.connected is (Of c) t.table w hw in
+      let y = accepts_says m completed (Completes x δ f) ha (run (step_set m δ live x) (start_set live) w) in
+      let z = some_beyond x c w in
       (λ p. z.1 (l.0 (y.0 p)), λ p. y.1 (l.1 (z.0 p))))) in
       record {
-        table = written-table k o γ (λ i. acc (at i)) g cls rep r δ' f' e.connected j same w (Of (some x c)) tb;
-        collapsed = written-collapsed k o γ (λ i. acc (at i)) g cls rep r δ' f' e.connected j same w;
-        fits = (t.fits, exact-top k (Apart k (some x c)) o n γ (explored-exact k (step_set m δ live x) (start-set live) o at γ e (Apart k (some x c)) some_to some-from) few);
+        table = written_table k o γ (λ i. acc (at i)) g cls rep r δ' f' e.connected j same w (Of (some x c)) tb;
+        collapsed = written_collapsed k o γ (λ i. acc (at i)) g cls rep r δ' f' e.connected j same w;
+        fits = (t.fits, exact_top k (Apart k (some x c)) o n γ (explored_exact k (step_set m δ live x) (start_set live) o at γ e (Apart k (some x c)) some_to some_from) few);
       }
 
 -- the answers, from the table of the whole claim
 module _ (k n : ℕ) (c : C) (m : ℕ) (δ : ℕ → ℕ → ℕ) (f : ℕ → Bool) (t : Worked k n c m δ f) where
   pub always : ((q : ℕ) → q < m → f q ≡ true) → (w : Word) → Columns k w → Of c w
-  always a w h = (t.table.says w h).0 (a (run δ 0 w) (run-below k m δ t.table.connected 0 w t.table.connected.start h))
+  always a w h = (t.table.says w h).0 (a (run δ 0 w) (run_below k m δ t.table.connected 0 w t.table.connected.start h))
 
   pub never : ((q : ℕ) → q < m → f q ≡ false) → (w : Word) → Columns k w → Of c w → ⊥
-  never a w h l = false≢true (sym (a (run δ 0 w) (run-below k m δ t.table.connected 0 w t.table.connected.start h)) ∙ (t.table.says w h).1 l)
+  never a w h l = false≢true (sym (a (run δ 0 w) (run_below k m δ t.table.connected 0 w t.table.connected.start h)) ∙ (t.table.says w h).1 l)

@@ -102,19 +102,19 @@ residuals x y s = record { size = 9; start = s; step = λ q b. number (after (re
 
 -- the kinds of claims without parts, the claim that each is, and its machine
 pub data Kind : Type 0 where
-  within-kind : ℕ → ℕ → Kind
-  single-kind : ℕ → Kind
-  next-kind : ℕ → ℕ → Kind
-  before-kind : ℕ → ℕ → Kind
+  within_kind : ℕ → ℕ → Kind
+  single_kind : ℕ → Kind
+  next_kind : ℕ → ℕ → Kind
+  before_kind : ℕ → ℕ → Kind
 
 abbrev pub claim : Kind → C
-claim (within-kind x y) = within x y
-claim (single-kind x) = single x
-claim (next-kind x y) = next x y
-claim (before-kind x y) = before x y
+claim (within_kind x y) = within x y
+claim (single_kind x) = single x
+claim (next_kind x y) = next x y
+claim (before_kind x y) = before x y
 
 abbrev pub machine : Kind → Machine
-machine (within-kind x y) = residuals x y 0
-machine (single-kind x) = residuals x x 1
-machine (next-kind x y) = residuals x y 2
-machine (before-kind x y) = residuals x y 3
+machine (within_kind x y) = residuals x y 0
+machine (single_kind x) = residuals x x 1
+machine (next_kind x y) = residuals x y 2
+machine (before_kind x y) = residuals x y 3

@@ -19,12 +19,12 @@ abbrev pub Adds : (ℕ → Bool) → (ℕ → Bool) → (ℕ → Type 0) → Typ
 Adds old new more = (q : ℕ) → (new q ≡ true) ↔ ((old q ≡ true) ⊎ more q)
 
 -- some bit y of a word, standing for class from + y, of which P holds
-abbrev pub Some-bit : (ℕ → Type 0) → ℕ → ℕ → Type 0
-Some-bit P from word = (y : ℕ) × (bit y word ≡ true) × P (from + y)
+abbrev pub SomeBit : (ℕ → Type 0) → ℕ → ℕ → Type 0
+SomeBit P from word = (y : ℕ) × (bit y word ≡ true) × P (from + y)
 
 -- every bit of a word stands for a class below n
-abbrev pub Bits-below : ℕ → ℕ → ℕ → Type 0
-Bits-below n from word = (y : ℕ) → bit y word ≡ true → from + y < n
+abbrev pub BitsBelow : ℕ → ℕ → ℕ → Type 0
+BitsBelow n from word = (y : ℕ) → bit y word ≡ true → from + y < n
 
 -- every class of a set is below n
 abbrev pub Below : ℕ → (ℕ → Bool) → Type 0

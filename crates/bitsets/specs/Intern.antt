@@ -12,14 +12,14 @@ hashed h [] = h
 hashed h (x ∷ row) = hashed (mixed h x) row
 
 -- the bucket of a row, of n buckets
-unfoldable pub bucket-of : List ℕ → ℕ → ℕ
-bucket-of row n = hashed 1 row % n
+unfoldable pub bucket_of : List ℕ → ℕ → ℕ
+bucket_of row n = hashed 1 row % n
 
 -- c is 1 more than the last of the first n rows that is filed under bucket h, or 0 where none is
 pub record Last (buckets : List ℕ) (h n c : ℕ) : Type 0 where
   pub low : c ≤ n
   pub filed : 0 < c → slice_index buckets (c - 1) ≡ h
-  pub no-later : (j : ℕ) → c ≤ j → j < n → slice_index buckets j ≢ h
+  pub no_later : (j : ℕ) → c ≤ j → j < n → slice_index buckets j ≢ h
 
 -- what bucket h's head says of the first n rows: the head counts only if it is one of them and filed under h, so that heads need no clearing
 unfoldable pub first_of : List ℕ → List ℕ → ℕ → ℕ → ℕ
@@ -33,7 +33,7 @@ pub record Chains (heads links buckets : List ℕ) (n : ℕ) : Type 0 where
 -- and each is filed under its own bucket
 pub record Interned (sets : List ℕ) (w n : ℕ) (heads links buckets : List ℕ) : Type 0 where
   pub chains : Chains heads links buckets n
-  pub filed : (i : ℕ) → i < n → slice_index buckets i ≡ bucket-of (row_at sets w i) (length heads)
+  pub filed : (i : ℕ) → i < n → slice_index buckets i ≡ bucket_of (row_at sets w i) (length heads)
 
 -- row n is a set that no row before it is, and it is interned too
 pub record Fresh (sets : List ℕ) (w n : ℕ) (heads links buckets : List ℕ) : Type 0 where

@@ -2,7 +2,7 @@
 ghost use Rattle.std.specs.Prelude.{◌≡◌, ℕ, ◌+◌, ◌*◌, ◌^◌, ◌<◌, ◌≤◌, true, false, length, Decides};
 ghost use Rattle.words.specs.Words.{bit};
 ghost use Rattle.tables.specs.Cells.{accepts};
-ghost use Rattle.bitsets.specs.Bitrows.{has, row_at, Adds, Some-bit, Bits-below, Below, Meets};
+ghost use Rattle.bitsets.specs.Bitrows.{has, row_at, Adds, SomeBit, BitsBelow, Below, Meets};
 
 use words::bits::{Set, with_bit};
 
@@ -47,9 +47,9 @@ pub fn same_rows(sets: &[u32], w: usize, i: usize, j: usize) -> bool
 
 // Whether one of the classes from + y accepts, y the bits of a word: shifts the word down until no bit is left.
 fn meets_word(word: u32, from: usize, accept: &[u32]) -> bool
-    requires inside { Bits-below (length accept.now) from word }
+    requires inside { BitsBelow (length accept.now) from word }
     requires small { from < 2 ^ 40 }
-    ensures { Decides result (Some-bit (λ q. accepts accept.now q ≡ true) from word) }
+    ensures { Decides result (SomeBit (λ q. accepts accept.now q ≡ true) from word) }
 {
     let mut left = word;
     let mut q = from;

@@ -3,7 +3,7 @@
 // Which hash is taken changes no promise: equal rows are in one bucket whatever it is.
 ghost use Rattle.std.specs.Prelude.{◌≡◌, ℕ, ◌+◌, ◌*◌, ◌%◌, ◌^◌, ◌<◌, ◌≤◌, length, MatchOption, ◌≢◌, slice_set};
 ghost use Rattle.bitsets.specs.Bitrows.{row_at, member};
-ghost use Rattle.bitsets.specs.Intern.{mixed, hashed, bucket-of, first_of, Chains, Interned, Fresh, Again};
+ghost use Rattle.bitsets.specs.Intern.{mixed, hashed, bucket_of, first_of, Chains, Interned, Fresh, Again};
 
 use crate::bitrows::same_rows;
 
@@ -18,7 +18,7 @@ fn mix(h: u32, x: u32) -> u32
 // The bucket of a row, of n buckets.
 fn bucket(row: &[u32], n: usize) -> u32
     requires { 0 < n }
-    ensures value { result ≡ bucket-of row.now n }
+    ensures value { result ≡ bucket_of row.now n }
     ensures below { result < n }
 {
     let mut h = 1;
@@ -60,7 +60,7 @@ fn find(
     buckets: &[u32],
 ) -> Option<usize>
     requires interned { Interned sets.now w n heads.now links.now buckets.now }
-    requires hash { h ≡ bucket-of (row_at sets.now w n) (length heads.now) }
+    requires hash { h ≡ bucket_of (row_at sets.now w n) (length heads.now) }
     requires room { (n * w + w ≤ length sets.now) × (h < length heads.now) × (n ≤ length links.now) × (n ≤ length buckets.now) }
     ensures { MatchOption result ((j : ℕ) → j < n → row_at sets.now w j ≢ row_at sets.now w n) (λ j. (j < n) × (row_at sets.now w j ≡ row_at sets.now w n)) }
 {

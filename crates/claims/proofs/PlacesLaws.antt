@@ -26,8 +26,8 @@ pub only_one : (v : Sets) (x i : ℕ) → Only (put v x (one i)) x i
 only_one v x i = (put_same v x (one i) i ∙ has_one i, λ j e. one_has i j (sym (put_same v x (one i) j) ∙ e))
 
 -- a place stays where another set is put
-pub only-put : (v : Sets) (x : ℕ) (u : List Bool) (y i : ℕ) → (y ≡ x → ⊥) → Only v y i ↔ Only (put v x u) y i
-only-put v x u y i n = (
+pub only_put : (v : Sets) (x : ℕ) (u : List Bool) (y i : ℕ) → (y ≡ x → ⊥) → Only v y i ↔ Only (put v x u) y i
+only_put v x u y i n = (
   λ o. (put_other v x u y i n ∙ o.0, λ j e. o.1 j (sym (put_other v x u y j n) ∙ e)),
   λ o. (sym (put_other v x u y i n) ∙ o.0, λ j e. o.1 j (put_other v x u y j n ∙ e)),
 )

@@ -6,10 +6,10 @@ use Rattle.firsts.specs.Spell.{word}
 
 -- memory for a number, a class or a column for each of so many classes
 pub record Room (classes : ℕ) (queue number prev via : List ℕ) : Type 0 where
-  pub queue-fits : classes ≤ length queue
+  pub queue_fits : classes ≤ length queue
   pub number_fits : classes ≤ length number
-  pub prev-fits : classes ≤ length prev
-  pub via-fits : classes ≤ length via
+  pub prev_fits : classes ≤ length prev
+  pub via_fits : classes ≤ length via
 
 -- class q is among the first m that were found
 abbrev pub Among : List ℕ → ℕ → ℕ → Type 0

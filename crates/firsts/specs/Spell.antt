@@ -3,14 +3,14 @@ use Rattle.std.specs.Prelude.{ℕ, zero, suc, ◌<◌, ◌≤◌, List, [], ◌�
 use Rattle.words.specs.Words.{Word}
 
 -- the last n columns of the word of number j, or all of them where it has no more
-unfoldable pub last-columns : List ℕ → List ℕ → ℕ → ℕ → Word
-last-columns prev via zero j = []
-last-columns prev via (suc n) zero = []
-last-columns prev via (suc n) (suc j) = last-columns prev via n (slice_index prev (suc j)) ++ (slice_index via (suc j) ∷ [])
+unfoldable pub last_columns : List ℕ → List ℕ → ℕ → ℕ → Word
+last_columns prev via zero j = []
+last_columns prev via (suc n) zero = []
+last_columns prev via (suc n) (suc j) = last_columns prev via n (slice_index prev (suc j)) ++ (slice_index via (suc j) ∷ [])
 
 -- the word of number j: number 0 has the empty word, and numbers fall on the way back, so j columns are all
 unfoldable pub word : List ℕ → List ℕ → ℕ → Word
-word prev via j = last-columns prev via j j
+word prev via j = last_columns prev via j j
 
 -- each number up to j was found from a lower one
 abbrev pub Falls : List ℕ → ℕ → Type 0

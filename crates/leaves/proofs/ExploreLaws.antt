@@ -3,55 +3,55 @@ use Rattle.std.proofs.Common.{◌≡◌, ℕ, suc, ◌+◌, ◌*◌, ◌^◌, �
 use Rattle.std.proofs.lemmas.List.{get_or-set_same, get_or-set_other}
 use Rattle.words.specs.Words.{Word}
 use Rattle.claims.specs.Claims.{Holds}
-use Rattle.automata.specs.Machines.{Kind, within-kind, single-kind, next-kind, before-kind, claim, machine, moves}
+use Rattle.automata.specs.Machines.{Kind, within_kind, single_kind, next_kind, before_kind, claim, machine, moves}
 use Rattle.automata.specs.Search.{Explored}
-use Rattle.automata.proofs.Counting.{pigeon-below}
-use Rattle.automata.proofs.Machines.{leaf-below}
+use Rattle.automata.proofs.Counting.{pigeon_below}
+use Rattle.automata.proofs.Machines.{leaf_below}
 use Rattle.automata.proofs.Residuals.{leaf}
-use Rattle.tables.specs.Cells.{entry, put-entry}
+use Rattle.tables.specs.Cells.{entry, put_entry}
 use Rattle.tables.specs.Search.{Searching}
-use Rattle.tables.proofs.SearchLaws.{searching-start, searching-row, searching-old, searching-new, searching-end}
+use Rattle.tables.proofs.SearchLaws.{searching_start, searching_row, searching_old, searching_new, searching_end}
 use Rattle.leaves.specs.Explore.{Entered}
 
 -- every kind's machine has at most nine states
-pub states-few : (a : Kind) → (machine a).size ≤ 9
-states-few (within-kind x y) = omega arith
-states-few (single-kind x) = omega arith
-states-few (next-kind x y) = omega arith
-states-few (before-kind x y) = omega arith
+pub states_few : (a : Kind) → (machine a).size ≤ 9
+states_few (within_kind x y) = omega arith
+states_few (single_kind x) = omega arith
+states_few (next_kind x y) = omega arith
+states_few (before_kind x y) = omega arith
 
 -- the states found by row i, column a
 abbrev pub Far : Kind → ℕ → ℕ → List ℕ → List ℕ → ℕ → ℕ → Type 0
 Far c k m at rows i a = Searching k (moves (machine c)) (machine c).start m (λ j. get_or at j 0) rows (2 ^ k) i a
 
 module _ (c : Kind) (k m : ℕ) (at rows : List ℕ) (i a : ℕ) (f : Far c k m at rows i a) where
-  pub far-states : (j : ℕ) → j < m → get_or at j 0 < (machine c).size
-  far-states j h = rw (sym (f.so_far.comes j h)) (leaf-below k (Holds (claim c)) (machine c) (leaf c) (f.ws j))
+  pub far_states : (j : ℕ) → j < m → get_or at j 0 < (machine c).size
+  far_states j h = rw (sym (f.so_far.comes j h)) (leaf_below k (Holds (claim c)) (machine c) (leaf c) (f.ws j))
 
-  pub far-few : m ≤ 9
-  far-few =
-      let p = pigeon-below m (machine c).size (λ j _. get_or at j 0) far-states (λ p q h g e. f.so_far.differ p q h g e) in
-      omega (arith, states-few c)
+  pub far_few : m ≤ 9
+  far_few =
+      let p = pigeon_below m (machine c).size (λ j _. get_or at j 0) far_states (λ p q h g e. f.so_far.differ p q h g e) in
+      omega (arith, states_few c)
 
   -- one step
-  pub far-enter : (W t : ℕ) (at' rows' : List ℕ) (r : ℕ) → W ≡ 2 ^ k → i < m → a < W → 9 * 2 ^ k ≤ length rows → m < length at → t ≡ moves (machine c) (get_or at i 0) a → Entered m at rows W i a t at' rows' r → (m ≤ r) × Far c k r at' rows' i (a + 1)
-  far-enter W t at' rows' r e hi ha room hm et (inl d) =
+  pub far_enter : (W t : ℕ) (at' rows' : List ℕ) (r : ℕ) → W ≡ 2 ^ k → i < m → a < W → 9 * 2 ^ k ≤ length rows → m < length at → t ≡ moves (machine c) (get_or at i 0) a → Entered m at rows W i a t at' rows' r → (m ≤ r) × Far c k r at' rows' i (a + 1)
+  far_enter W t at' rows' r e hi ha room hm et (inl d) =
       let (j, h, g, n, b, o) = d in
-      rw (n, b, o, e, add-one) (omega arith, searching-old k (moves (machine c)) (machine c).start (2 ^ k) refl 9 m (λ j. get_or at j 0) rows i a f hi (omega arith) far-few room j h (g ∙ et))
-  far-enter W t at' rows' r e hi ha room hm et (inr d) =
+      rw (n, b, o, e, add-one) (omega arith, searching_old k (moves (machine c)) (machine c).start (2 ^ k) refl 9 m (λ j. get_or at j 0) rows i a f hi (omega arith) far_few room j h (g ∙ et))
+  far_enter W t at' rows' r e hi ha room hm et (inr d) =
       let (g, n, b, o) = d in
       let s : r ≡ suc m = omega arith in
       rw (n, b, s, e, add-one) (
         omega arith,
-        searching-new k (moves (machine c)) (machine c).start (2 ^ k) refl 9 m (λ j. get_or at j 0) rows i a f hi (omega arith) far-few room (λ j. get_or (set at m t) j 0)
+        searching_new k (moves (machine c)) (machine c).start (2 ^ k) refl 9 m (λ j. get_or at j 0) rows i a f hi (omega arith) far_few room (λ j. get_or (set at m t) j 0)
             (λ j h x. g j h (x ∙ sym et)) (get_or-set_same at m t 0 hm ∙ et) (λ j h. get_or-set_other at m j t 0 (omega arith)),
       )
 
-pub far-start : (c : Kind) (k s : ℕ) (at rows : List ℕ) → 0 < length at → s ≡ (machine c).start → Far c k 1 (set at 0 s) rows 0 0
-far-start c k s at rows h e = searching-start k (moves (machine c)) (machine c).start (2 ^ k) refl (λ j. get_or (set at 0 s) j 0) rows (get_or-set_same at 0 s 0 h ∙ e)
+pub far_start : (c : Kind) (k s : ℕ) (at rows : List ℕ) → 0 < length at → s ≡ (machine c).start → Far c k 1 (set at 0 s) rows 0 0
+far_start c k s at rows h e = searching_start k (moves (machine c)) (machine c).start (2 ^ k) refl (λ j. get_or (set at 0 s) j 0) rows (get_or-set_same at 0 s 0 h ∙ e)
 
-pub far-row : (c : Kind) (k m : ℕ) (at rows : List ℕ) (i a : ℕ) → a ≡ 2 ^ k → Far c k m at rows i a → Far c k m at rows (i + 1) 0
-far-row c k m at rows i a e f = rw add-one (searching-row k (moves (machine c)) (machine c).start (2 ^ k) refl m (λ j. get_or at j 0) rows i (subst (Far c k m at rows i) e f))
+pub far_row : (c : Kind) (k m : ℕ) (at rows : List ℕ) (i a : ℕ) → a ≡ 2 ^ k → Far c k m at rows i a → Far c k m at rows (i + 1) 0
+far_row c k m at rows i a e f = rw add-one (searching_row k (moves (machine c)) (machine c).start (2 ^ k) refl m (λ j. get_or at j 0) rows i (subst (Far c k m at rows i) e f))
 
-pub far-end : (c : Kind) (k m : ℕ) (at rows : List ℕ) (i : ℕ) → i ≡ m → Far c k m at rows i 0 → Explored k (moves (machine c)) (machine c).start m (λ j. get_or at j 0) (entry rows (2 ^ k))
-far-end c k m at rows i e f = searching-end k (moves (machine c)) (machine c).start (2 ^ k) refl m (λ j. get_or at j 0) rows (subst (λ z. Far c k m at rows z 0) e f)
+pub far_end : (c : Kind) (k m : ℕ) (at rows : List ℕ) (i : ℕ) → i ≡ m → Far c k m at rows i 0 → Explored k (moves (machine c)) (machine c).start m (λ j. get_or at j 0) (entry rows (2 ^ k))
+far_end c k m at rows i e f = searching_end k (moves (machine c)) (machine c).start (2 ^ k) refl m (λ j. get_or at j 0) rows (subst (λ z. Far c k m at rows z 0) e f)

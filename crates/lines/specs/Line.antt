@@ -2,22 +2,22 @@
 use Rattle.std.specs.Prelude.{◌≡◌, ℕ, ◌+◌, ◌-◌, ◌*◌, ◌<◌, ◌≤◌, ◌⊎◌, List, [], ◌∷◌, ◌++◌, length, ◌≢◌}
 
 -- no byte of s is a space
-abbrev pub No-space : List ℕ → Type 0
-No-space [] = Unit {0}
-No-space (d ∷ s) = (d ≢ 32) × No-space s
+abbrev pub NoSpace : List ℕ → Type 0
+NoSpace [] = Unit {0}
+NoSpace (d ∷ s) = (d ≢ 32) × NoSpace s
 
 -- a line of two fields, the second not empty, and a line of three
 pub record Two (line most bytes : List ℕ) : Type 0 where
-  pub first : No-space most
-  pub second : No-space bytes
+  pub first : NoSpace most
+  pub second : NoSpace bytes
   pub some : 0 < length bytes
   pub whole : most ++ (32 ∷ bytes) ≡ line
 
 pub record Three (line most bytes out : List ℕ) : Type 0 where
-  pub first : No-space most
-  pub second : No-space bytes
+  pub first : NoSpace most
+  pub second : NoSpace bytes
   pub some : 0 < length bytes
-  pub third : No-space out
+  pub third : NoSpace out
   pub whole : most ++ (32 ∷ (bytes ++ (32 ∷ out))) ≡ line
 
 -- decimal digits, read on from n, write m

@@ -1,6 +1,6 @@
 // What stands on a line: `most hexbytes`, or `most hexbytes outwords`, with one space between them. `-` stands for no bytes.
 ghost use Rattle.std.specs.Prelude.{◌≡◌, ℕ, ◌^◌, ◌<◌, ◌≤◌, ◌⊎◌, List, ◌∷◌, ◌++◌, length, MatchOption, MatchResult, ◌≢◌, slice_index};
-ghost use Rattle.lines.specs.Line.{No-space, Two, Three, Number, Digit, Pair, Field};
+ghost use Rattle.lines.specs.Line.{NoSpace, Two, Three, Number, Digit, Pair, Field};
 ghost use Rattle.lines.specs.declared.line.Fault.TheVariants.{Memory};
 
 use std::alloc::Global;
@@ -34,7 +34,7 @@ fn field_end(text: &[u8]) -> usize
 
 // The text before the first space, and the text behind that, if there is a space.
 fn split_field(text: &[u8]) -> (&[u8], Option<&[u8]>)
-    ensures field { No-space result.0.now }
+    ensures field { NoSpace result.0.now }
     ensures rest { MatchOption result.1 (result.0.now ≡ text.now) (λ rest. result.0.now ++ (32 ∷ rest.now) ≡ text.now) }
 {
     let end = field_end(text);

@@ -1,12 +1,12 @@
 -- Marking classes from the accepting ones back: for one column the classes that come to each class, as linked lists, and a queue of the classes that are marked.
 use Rattle.std.specs.Prelude.{◌≡◌, ℕ, ◌-◌, ◌<◌, ◌≤◌, Bool, true, ◌⊎◌, List, length, slice_index}
-use Rattle.words.specs.Bits.{put-bit}
+use Rattle.words.specs.Bits.{put_bit}
 use Rattle.automata.specs.Subsets.{Completes}
 use Rattle.tables.specs.Cells.{entry, accepts}
 
 -- the class to which column a leads, from each class
-abbrev pub by-column : List ℕ → ℕ → ℕ → ℕ → ℕ
-by-column rows width a q = entry rows width q a
+abbrev pub by_column : List ℕ → ℕ → ℕ → ℕ → ℕ
+by_column rows width a q = entry rows width q a
 
 -- e stands for the last of the classes below n that go to r: it is one more than that class, or 0 where none goes there
 pub record Last (to : ℕ → ℕ) (r n e : ℕ) : Type 0 where
@@ -16,15 +16,15 @@ pub record Last (to : ℕ → ℕ) (r n e : ℕ) : Type 0 where
 
 -- for each of m classes the list of those below n that go to it: its head stands for the last of them, and the link of each for the one before it
 pub record Comers (m n : ℕ) (to : ℕ → ℕ) (heads links : List ℕ) : Type 0 where
-  pub heads-fit : m ≤ length heads
-  pub links-fit : m ≤ length links
-  pub heads-last : (r : ℕ) → r < m → Last to r n (slice_index heads r)
-  pub links-last : (q : ℕ) → q < n → Last to (to q) q (slice_index links q)
+  pub heads_fit : m ≤ length heads
+  pub links_fit : m ≤ length links
+  pub heads_last : (r : ℕ) → r < m → Last to r n (slice_index heads r)
+  pub links_last : (q : ℕ) → q < n → Last to (to q) q (slice_index links q)
 
 -- the queue up to its tail has those of m classes that are marked, each once
 pub record Queued (m : ℕ) (marks queue : List ℕ) (tail : ℕ) : Type 0 where
-  pub marks-fit : m ≤ length marks
-  pub queue-fits : m ≤ length queue
+  pub marks_fit : m ≤ length marks
+  pub queue_fits : m ≤ length queue
   pub within : tail ≤ m
   pub classes : (i : ℕ) → i < tail → slice_index queue i < m
   pub marked : (i : ℕ) → i < tail → accepts marks (slice_index queue i) ≡ true
@@ -52,4 +52,4 @@ pub record Marking (x m : ℕ) (δ : ℕ → ℕ → ℕ) (f : ℕ → Bool) (ma
   pub within : i ≤ tail
   pub accepting : (q : ℕ) → q < m → f q ≡ true → accepts marks q ≡ true
   pub completed : (q : ℕ) → q < m → accepts marks q ≡ true → Completes x δ f q
-  pub closed : (b : Bool) (j q : ℕ) → j < i → q < m → δ q (put-bit x b 0) ≡ slice_index queue j → accepts marks q ≡ true
+  pub closed : (b : Bool) (j q : ℕ) → j < i → q < m → δ q (put_bit x b 0) ≡ slice_index queue j → accepts marks q ≡ true

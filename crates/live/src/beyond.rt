@@ -6,10 +6,10 @@
 // Of each class in the queue all that go to it in one step are marked. Once that is done for the whole queue, the marked classes
 // hold the accepting ones and all from which a marked one is reached, and no others: those are the completed ones.
 ghost use Rattle.std.specs.Prelude.{◌≡◌, ℕ, ◌+◌, ◌^◌, ◌<◌, ◌≤◌, true, ◌↔◌, length, slice_index};
-ghost use Rattle.words.specs.Bits.{put-bit};
+ghost use Rattle.words.specs.Bits.{put_bit};
 ghost use Rattle.automata.specs.Subsets.{Completes};
 ghost use Rattle.tables.specs.Cells.{entry, accepts};
-ghost use Rattle.live.specs.Beyond.{Comers, Queued, Grown, Marking, by-column};
+ghost use Rattle.live.specs.Beyond.{Comers, Queued, Grown, Marking, by_column};
 
 use tables::cells::{Class, Table};
 use words::bits::{Set, with_bit};
@@ -36,7 +36,7 @@ fn comers(t: Table, a: u32, heads: &mut [u32], links: &mut [u32])
     requires few { t.classes < 2 ^ 32 }
     requires column { a < t.width }
     requires room { (t.classes ≤ length heads.old) × (t.classes ≤ length links.old) }
-    ensures { Comers t.entry.classes t.entry.classes (by-column t.entry.rows.now t.entry.width a) heads.new links.new }
+    ensures { Comers t.entry.classes t.entry.classes (by_column t.entry.rows.now t.entry.width a) heads.new links.new }
 {
     clear(heads, t.classes);
     for q in 0..t.classes {
@@ -71,9 +71,9 @@ fn mark_comers(
     tail: usize,
 ) -> usize
     requires class { r.0 < t.classes }
-    requires comers { Comers t.classes t.classes (by-column t.rows.now t.width a) lists.heads.now lists.links.now }
+    requires comers { Comers t.classes t.classes (by_column t.rows.now t.width a) lists.heads.now lists.links.now }
     requires queued { Queued t.classes marks.old queue.old tail }
-    ensures { Grown t.entry.classes (λ p. by-column t.entry.rows.now t.entry.width a p ≡ r.0) marks.old queue.old tail marks.new queue.new result }
+    ensures { Grown t.entry.classes (λ p. by_column t.entry.rows.now t.entry.width a p ≡ r.0) marks.old queue.old tail marks.new queue.new result }
 {
     let to = r.0;
     let mut last = tail;
@@ -105,7 +105,7 @@ fn mark_accepting(t: Table, marks: &mut [u32], queue: &mut [u32]) -> usize
 // The column in which set x alone has the place.
 fn lone(x: Set, k: u32) -> u32
     requires { (x.0 < k) × (k ≤ 12) }
-    ensures value { result ≡ put-bit x.0 true 0 }
+    ensures value { result ≡ put_bit x.0 true 0 }
     ensures below { result < 2 ^ k }
 {
     with_bit(0, x)
@@ -123,10 +123,10 @@ fn mark_behind(
     tail: usize,
     i: usize,
 ) -> usize
-    requires column { with_x ≡ put-bit x.0 true 0 }
+    requires column { with_x ≡ put_bit x.0 true 0 }
     requires place { i < tail }
-    requires comers0 { Comers t.classes t.classes (by-column t.rows.now t.width 0) lists0.heads.now lists0.links.now }
-    requires comers1 { Comers t.classes t.classes (by-column t.rows.now t.width with_x) lists1.heads.now lists1.links.now }
+    requires comers0 { Comers t.classes t.classes (by_column t.rows.now t.width 0) lists0.heads.now lists0.links.now }
+    requires comers1 { Comers t.classes t.classes (by_column t.rows.now t.width with_x) lists1.heads.now lists1.links.now }
     requires marking { Marking x.0 t.classes (entry t.rows.now t.width) (accepts t.accept.now) marks.old queue.old tail i }
     ensures { Marking x.0 t.entry.classes (entry t.entry.rows.now t.entry.width) (accepts t.entry.accept.now) marks.new queue.new result (i + 1) }
 {

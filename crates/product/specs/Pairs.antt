@@ -1,10 +1,10 @@
 -- What the product of two tables is: a class for each pair of classes that a word leads to.
 use Rattle.std.specs.Prelude.{◌≡◌, ℕ, ◌<◌, ◌≤◌, Bool, ◌&&◌, List, slice_index}
-use Rattle.automata.specs.Product.{Pair, pair, step-pair}
+use Rattle.automata.specs.Product.{Pair, pair, step_pair}
 use Rattle.automata.specs.Search.{Explored}
 use Rattle.tables.specs.Cells.{entry, accepts}
 use Rattle.tables.specs.declared.cells.Table.{Table}
-use Rattle.tables.specs.Numbering.{pair-at}
+use Rattle.tables.specs.Numbering.{pair_at}
 
 -- where a column leads in a table
 abbrev pub moves : Table → ℕ → ℕ → ℕ
@@ -15,11 +15,11 @@ abbrev pub accepting : Table → ℕ → Bool
 accepting t = accepts t.accept.now
 
 -- where a column leads from a pair of classes
-abbrev pub pair-moves : Table → Table → Pair → ℕ → Pair
-pair-moves a b = step-pair (moves a) (moves b)
+abbrev pub pair_moves : Table → Table → Pair → ℕ → Pair
+pair_moves a b = step_pair (moves a) (moves b)
 
 -- the product of the tables a and b, with m classes, stands in `rows` and `accept`: class i is the pair with number i
 pub record Paired (k most : ℕ) (a b : Table) (rows accept lefts rights : List ℕ) (m : ℕ) : Type 0 where
   pub few : m ≤ most
-  pub explored : Explored k (pair-moves a b) (pair 0 0) m (pair-at lefts rights) (entry rows a.width)
+  pub explored : Explored k (pair_moves a b) (pair 0 0) m (pair_at lefts rights) (entry rows a.width)
   pub accepted : (i : ℕ) → i < m → accepts accept i ≡ (accepting a (slice_index lefts i) && accepting b (slice_index rights i))

@@ -10,10 +10,10 @@
 // number is wanted while `most` pairs have one, more than `most` pairs are reached.
 ghost use Rattle.std.specs.Prelude.{◌≡◌, ℕ, ◌+◌, ◌*◌, ◌^◌, ◌<◌, ◌≤◌, ◌&&◌, length, MatchOption, slice_index};
 ghost use Rattle.automata.specs.Product.{pair};
-ghost use Rattle.automata.specs.Search.{Too-many};
+ghost use Rattle.automata.specs.Search.{TooMany};
 ghost use Rattle.tables.specs.Cells.{accepts};
-ghost use Rattle.product.specs.Pairs.{accepting, pair-moves, Paired};
-ghost use Rattle.product.specs.Pairing.{Room, Pairing, In-row, Found, Too-many-pairs};
+ghost use Rattle.product.specs.Pairs.{accepting, pair_moves, Paired};
+ghost use Rattle.product.specs.Pairing.{Room, Pairing, InRow, Found, TooManyPairs};
 
 use crate::factors::Factors;
 use tables::cells::{Class, Table, put};
@@ -33,9 +33,9 @@ fn column(
     a: u32,
 ) -> Option<usize>
     requires room { Room f.now rows.old lefts.old rights.old index.old }
-    requires so_far { In-row f.now rows.old lefts.old rights.old index.old count i p.0 q.0 a }
+    requires so_far { InRow f.now rows.old lefts.old rights.old index.old count i p.0 q.0 a }
     requires within { a < f.now.left.width }
-    ensures { MatchOption result (Too-many-pairs f.now) (λ m. In-row f.now rows.new lefts.new rights.new index.new m i p.0 q.0 (a + 1)) }
+    ensures { MatchOption result (TooManyPairs f.now) (λ m. InRow f.now rows.new lefts.new rights.new index.new m i p.0 q.0 (a + 1)) }
 {
     let sizes = Sizes {
         left: f.left.classes,
@@ -72,7 +72,7 @@ fn row(
     requires room { Room f.now rows.old lefts.old rights.old index.old }
     requires so_far { Pairing f.now rows.old lefts.old rights.old index.old count i 0 }
     requires within { i < count }
-    ensures { MatchOption result (Too-many-pairs f.now) (λ m. (i < m) × Pairing f.now rows.new lefts.new rights.new index.new m (i + 1) 0) }
+    ensures { MatchOption result (TooManyPairs f.now) (λ m. (i < m) × Pairing f.now rows.new lefts.new rights.new index.new m (i + 1) 0) }
 {
     let (p, q) = (Class(lefts[i]), Class(rights[i]));
     for a in 0..f.left.width as u32 {
@@ -91,7 +91,7 @@ fn search(
 ) -> Option<usize>
     requires room { Room f.now rows.old lefts.old rights.old index.old }
     requires starts { (0 < f.now.left.classes) × ((0 < f.now.right.classes) × (0 < f.now.most)) }
-    ensures { MatchOption result (Too-many-pairs f.now) (λ m. Found f.now rows.new lefts.new rights.new m) }
+    ensures { MatchOption result (TooManyPairs f.now) (λ m. Found f.now rows.new lefts.new rights.new m) }
 {
     let sizes = Sizes {
         left: f.left.classes,
@@ -139,7 +139,7 @@ pub fn product(
     requires starts { (0 < a.classes) × (0 < b.classes) }
     requires most { (0 < most) × (most < 2 ^ 32) }
     requires room { (most * 2 ^ k ≤ length rows.old) × ((most ≤ length accept.old) × ((most ≤ length lefts.old) × ((most ≤ length rights.old) × (a.classes * b.classes ≤ length index.old)))) }
-    ensures { MatchOption result (Too-many k (pair-moves a.entry b.entry) (pair 0 0) most) (λ m. Paired k most a.entry b.entry rows.new accept.new lefts.new rights.new m) }
+    ensures { MatchOption result (TooMany k (pair_moves a.entry b.entry) (pair 0 0) most) (λ m. Paired k most a.entry b.entry rows.new accept.new lefts.new rights.new m) }
 {
     let f = Factors {
         left: a,

@@ -1,6 +1,6 @@
 // How many work words the call asks for.
 ghost use Rattle.std.specs.Prelude.{◌≡◌, ◌↔◌, true, ◌<◌, ◌≤◌};
-ghost use Rattle.room.specs.Floor.{tracks, floor-words};
+ghost use Rattle.room.specs.Floor.{tracks, floor_words};
 
 // The number of sets by the claim's first byte.
 fn count_sets(claim: &[u8]) -> u8
@@ -14,7 +14,7 @@ fn count_sets(claim: &[u8]) -> u8
 
 // The work words that the call asks for. For the largest `most` this passes 2^64.
 pub fn floor(claim: &[u8], most: u32) -> u128
-    ensures { result ≡ floor-words claim.now most }
+    ensures { result ≡ floor_words claim.now most }
 {
     let columns = 1u128 << count_sets(claim);
     let n = u128::from(most);
@@ -23,7 +23,7 @@ pub fn floor(claim: &[u8], most: u32) -> u128
 
 // Whether so many work words are fewer than the call asks for.
 pub fn too_few(words: usize, claim: &[u8], most: u32) -> bool
-    ensures { (words < floor-words claim.now most) ↔ (result ≡ true) }
+    ensures { (words < floor_words claim.now most) ↔ (result ≡ true) }
 {
     (words as u128) < floor(claim, most)
 }

@@ -2,20 +2,20 @@
 use Rattle.std.proofs.Common.{◌≡◌, ℕ, zero, suc, ◌+◌, ◌*◌, ◌^◌, ◌<◌, ◌≤◌, Bool, true, false, eqb, ◌⊎◌, List, length, get_or, Some, None, Option, sym, refl, ap, ◌∙◌, subst, inl, inr, arith, MatchOption}
 use native.Mathlib.Decide.{ℕ_discrete}
 use Rattle.words.specs.Words.{bit}
-use Rattle.words.specs.Bits.{put-bit}
-use Rattle.words.proofs.BitsLaws.{put-bit-below}
+use Rattle.words.specs.Bits.{put_bit}
+use Rattle.words.proofs.BitsLaws.{put_bit_below}
 use Rattle.automata.specs.Search.{Explored}
-use Rattle.tables.specs.Cells.{entry, put-entry, accepts}
+use Rattle.tables.specs.Cells.{entry, put_entry, accepts}
 use Rattle.tables.specs.Search.{Searching}
 use Rattle.tables.proofs.CellsLaws.{row_fits}
-use Rattle.tables.proofs.SearchLaws.{searching-start, searching-row, searching-old, searching-new, searching-many, searching-end}
+use Rattle.tables.proofs.SearchLaws.{searching_start, searching_row, searching_old, searching_new, searching_many, searching_end}
 use Rattle.subsets.specs.declared.projection.Projection.{Projection}
 use Rattle.bitsets.specs.Bitrows.{has, row_at, member, Below}
 use Rattle.live.specs.Dead.{lives}
 use Rattle.bitsets.specs.Intern.{Interned, Fresh, Again}
 use Rattle.subsets.specs.Projection.{step_of, start_of, says_of, Posed, Room, Found, Ready, Further, Excess, words, Projected}
-use Rattle.bitsets.proofs.InternLaws.{interned-kept}
-use Rattle.subsets.proofs.ProjectionLaws.{put-less, step-copied, step-below, found_below, searching-at}
+use Rattle.bitsets.proofs.InternLaws.{interned_kept}
+use Rattle.subsets.proofs.ProjectionLaws.{put_less, step_copied, step_below, found_below, searching_at}
 
 further : (p : Projection) (rows accept sets heads links buckets : List ℕ) (n m i a : ℕ) → n ≤ m → m ≤ p.most → Searching p.k (step_of p) (start_of p) m (member sets p.w) rows p.t.width i (suc a) → Interned sets p.w m heads links buckets → ((j : ℕ) → j < m → accepts accept j ≡ says_of p (member sets p.w j)) → Further p rows accept sets heads links buckets n m i (a + 1)
 further p rows accept sets heads links buckets n m i a more few s x t =
@@ -41,26 +41,26 @@ module _ {p : Projection} {rows accept sets heads links buckets : List ℕ} {n i
   pub set_below : (j : ℕ) → j < n → Below p.t.classes (member sets p.w j)
   set_below = found_below p.t.classes p.dead (entry p.t.rows.now p.t.width) p.x.0 p.k n (member sets p.w) rows p.t.width i a f.searching
 
-  pub set-fits : n * p.w + p.w ≤ length sets
-  set-fits = omega (arith, row_fits n (p.most + 1) p.w (omega (arith, f.few)), r.sets-fit)
+  pub set_fits : n * p.w + p.w ≤ length sets
+  set_fits = omega (arith, row_fits n (p.most + 1) p.w (omega (arith, f.few)), r.sets_fit)
 
   -- a column with bit x leads where it leads without
-  pub found-copied : (rows' : List ℕ) → bit p.x.0 a ≡ true → rows' ≡ put-entry rows p.t.width i a (entry rows p.t.width i (put-bit p.x.0 false a)) → Further p rows' accept sets heads links buckets n n i (a + 1)
-  found-copied rows' e er = further p rows' accept sets heads links buckets n n i a (omega arith) f.few
+  pub found_copied : (rows' : List ℕ) → bit p.x.0 a ≡ true → rows' ≡ put_entry rows p.t.width i a (entry rows p.t.width i (put_bit p.x.0 false a)) → Further p rows' accept sets heads links buckets n n i (a + 1)
+  found_copied rows' e er = further p rows' accept sets heads links buckets n n i a (omega arith) f.few
       (subst (λ z. Searching p.k (step_of p) (start_of p) n (member sets p.w) z p.t.width i (suc a)) (sym er)
-      (searching-old p.k (step_of p) (start_of p) p.t.width s.wide p.most n (member sets p.w) rows i a f.searching hi ha f.few r.rows_fit (entry rows p.t.width i b) led.0 led.1))
+      (searching_old p.k (step_of p) (start_of p) p.t.width s.wide p.most n (member sets p.w) rows i a f.searching hi ha f.few r.rows_fit (entry rows p.t.width i b) led.0 led.1))
       f.interned f.accepted
     where
       b : ℕ
-      b = put-bit p.x.0 false a
+      b = put_bit p.x.0 false a
 
       low : b < 2 ^ p.k
-      low = put-bit-below p.k p.x.0 false a s.bound (omega (arith, s.wide))
+      low = put_bit_below p.k p.x.0 false a s.bound (omega (arith, s.wide))
 
       led : (entry rows p.t.width i b < n) × (member sets p.w (entry rows p.t.width i b) ≡ step_of p (member sets p.w i) a)
       led =
-          let (d, g, _) = f.searching.so_far.steps i b (inr (refl, put-less p.x.0 a e)) hi low in
-          (d, g ∙ step-copied p.t.classes (entry p.t.rows.now p.t.width) (lives p.t.classes p.dead) p.x.0 (member sets p.w i) a)
+          let (d, g, _) = f.searching.so_far.steps i b (inr (refl, put_less p.x.0 a e)) hi low in
+          (d, g ∙ step_copied p.t.classes (entry p.t.rows.now p.t.width) (lives p.t.classes p.dead) p.x.0 (member sets p.w i) a)
 
   -- row n holds the set to which a column without bit x leads
   module _ (sets' : List ℕ) (made : member sets' p.w n ≡ step_of p (member sets p.w i) a) (kept : (j : ℕ) → j < n → row_at sets' p.w j ≡ row_at sets p.w j) where
@@ -68,7 +68,7 @@ module _ {p : Projection} {rows accept sets heads links buckets : List ℕ} {n i
     same_set j h = ap has (kept j h)
 
     searching' : Searching p.k (step_of p) (start_of p) n (member sets' p.w) rows p.t.width i a
-    searching' = searching-at p.k (step_of p) (start_of p) n (member sets p.w) (member sets' p.w) rows p.t.width i a same_set f.searching
+    searching' = searching_at p.k (step_of p) (start_of p) n (member sets p.w) (member sets' p.w) rows p.t.width i a same_set f.searching
 
     leads : member sets' p.w n ≡ step_of p (member sets' p.w i) a
     leads = made ∙ ap (λ X. step_of p X a) (sym (same_set i hi))
@@ -76,52 +76,52 @@ module _ {p : Projection} {rows accept sets heads links buckets : List ℕ} {n i
     accepted' : (j : ℕ) → j < n → accepts accept j ≡ says_of p (member sets' p.w j)
     accepted' j h = f.accepted j h ∙ ap (says_of p) (sym (same_set j h))
 
-    pub new-interned : Interned sets' p.w n heads links buckets
-    new-interned = interned-kept sets sets' p.w n heads links buckets kept f.interned
+    pub new_interned : Interned sets' p.w n heads links buckets
+    new_interned = interned_kept sets sets' p.w n heads links buckets kept f.interned
 
-    pub new-below : Below p.t.classes (member sets' p.w n)
-    new-below = subst (Below p.t.classes) (sym made) (step-below p.t.classes p.dead (entry p.t.rows.now p.t.width) p.x.0 (member sets p.w i) a)
+    pub new_below : Below p.t.classes (member sets' p.w n)
+    new_below = subst (Below p.t.classes) (sym made) (step_below p.t.classes p.dead (entry p.t.rows.now p.t.width) p.x.0 (member sets p.w i) a)
 
     module _ {heads' links' buckets' : List ℕ} (rows' : List ℕ) where
-      pub found-again : {j : ℕ} → Again sets' p.w n heads' links' buckets' j → rows' ≡ put-entry rows p.t.width i a j → Further p rows' accept sets' heads' links' buckets' n n i (a + 1)
-      found-again {j} x er = further p rows' accept sets' heads' links' buckets' n n i a (omega arith) f.few
+      pub found_again : {j : ℕ} → Again sets' p.w n heads' links' buckets' j → rows' ≡ put_entry rows p.t.width i a j → Further p rows' accept sets' heads' links' buckets' n n i (a + 1)
+      found_again {j} x er = further p rows' accept sets' heads' links' buckets' n n i a (omega arith) f.few
           (subst (λ z. Searching p.k (step_of p) (start_of p) n (member sets' p.w) z p.t.width i (suc a)) (sym er)
-          (searching-old p.k (step_of p) (start_of p) p.t.width s.wide p.most n (member sets' p.w) rows i a searching' hi ha f.few r.rows_fit j x.earlier (ap has x.same ∙ leads)))
+          (searching_old p.k (step_of p) (start_of p) p.t.width s.wide p.most n (member sets' p.w) rows i a searching' hi ha f.few r.rows_fit j x.earlier (ap has x.same ∙ leads)))
           x.interned accepted'
 
-      new-set : Fresh sets' p.w n heads' links' buckets' → (j : ℕ) → j < n → member sets' p.w j ≡ step_of p (member sets' p.w i) a → ⊥
-      new-set x j h e = x.differs j h (e ∙ sym leads)
+      new_set : Fresh sets' p.w n heads' links' buckets' → (j : ℕ) → j < n → member sets' p.w j ≡ step_of p (member sets' p.w i) a → ⊥
+      new_set x j h e = x.differs j h (e ∙ sym leads)
 
-      pub found-fresh : (accept' : List ℕ) → Fresh sets' p.w n heads' links' buckets' → (n ≡ p.most → ⊥) → accepts accept' n ≡ says_of p (member sets' p.w n) → ((j : ℕ) → j < n → get_or accept' j 0 ≡ get_or accept j 0) → rows' ≡ put-entry rows p.t.width i a n → Further p rows' accept' sets' heads' links' buckets' n (n + 1) i (a + 1)
-      found-fresh accept' x few told keep er =
+      pub found_fresh : (accept' : List ℕ) → Fresh sets' p.w n heads' links' buckets' → (n ≡ p.most → ⊥) → accepts accept' n ≡ says_of p (member sets' p.w n) → ((j : ℕ) → j < n → get_or accept' j 0 ≡ get_or accept j 0) → rows' ≡ put_entry rows p.t.width i a n → Further p rows' accept' sets' heads' links' buckets' n (n + 1) i (a + 1)
+      found_fresh accept' x few told keep er =
           let e : suc n ≡ n + 1 = omega arith in
           let P : ℕ → Type 0 = λ m. Searching p.k (step_of p) (start_of p) m (member sets' p.w) rows' p.t.width i (suc a) in
           let Q : List ℕ → Type 0 = λ z. Searching p.k (step_of p) (start_of p) (suc n) (member sets' p.w) z p.t.width i (suc a) in
           further p rows' accept' sets' heads' links' buckets' n (n + 1) i a (omega arith) (omega (arith, f.few))
           (subst P e (subst Q (sym er)
-          (searching-new p.k (step_of p) (start_of p) p.t.width s.wide p.most n (member sets' p.w) rows i a searching' hi ha f.few r.rows_fit (member sets' p.w) (new-set x) leads (λ j _. refl))))
+          (searching_new p.k (step_of p) (start_of p) p.t.width s.wide p.most n (member sets' p.w) rows i a searching' hi ha f.few r.rows_fit (member sets' p.w) (new_set x) leads (λ j _. refl))))
           x.interned (λ j h. elim (ℕ_discrete j n) [
             | yes g ↦ subst (λ j. accepts accept' j ≡ says_of p (member sets' p.w j)) (sym g) told
             | no g ↦ (let l : j < n = omega arith in ap (λ v. eqb v 1) (keep j l) ∙ accepted' j l)
           ])
 
-      pub found-many : Fresh sets' p.w n heads' links' buckets' → n ≡ p.most → Excess p
-      found-many x e = searching-many p.k (step_of p) (start_of p) p.t.width s.wide p.most n (member sets' p.w) rows i a searching' hi ha f.few r.rows_fit (member sets' p.w) (new-set x) leads (λ j _. refl) e
+      pub found_many : Fresh sets' p.w n heads' links' buckets' → n ≡ p.most → Excess p
+      found_many x e = searching_many p.k (step_of p) (start_of p) p.t.width s.wide p.most n (member sets' p.w) rows i a searching' hi ha f.few r.rows_fit (member sets' p.w) (new_set x) leads (λ j _. refl) e
 
 -- the memory keeps its size
-pub room-kept : {p : Projection} {rows accept sets heads links buckets : List ℕ} (rows' accept' sets' heads' links' buckets' : List ℕ) → Room p rows accept sets heads links buckets → length rows' ≡ length rows → length accept' ≡ length accept → length sets' ≡ length sets → length heads' ≡ length heads → length links' ≡ length links → length buckets' ≡ length buckets → Room p rows' accept' sets' heads' links' buckets'
-room-kept rows' accept' sets' heads' links' buckets' r e₁ e₂ e₃ e₄ e₅ e₆ = record {
+pub room_kept : {p : Projection} {rows accept sets heads links buckets : List ℕ} (rows' accept' sets' heads' links' buckets' : List ℕ) → Room p rows accept sets heads links buckets → length rows' ≡ length rows → length accept' ≡ length accept → length sets' ≡ length sets → length heads' ≡ length heads → length links' ≡ length links → length buckets' ≡ length buckets → Room p rows' accept' sets' heads' links' buckets'
+room_kept rows' accept' sets' heads' links' buckets' r e₁ e₂ e₃ e₄ e₅ e₆ = record {
   rows_fit = omega (arith, r.rows_fit);
-  accept-fits = omega (arith, r.accept-fits);
-  sets-fit = omega (arith, r.sets-fit);
-  heads-fit = omega (arith, r.heads-fit);
-  links-fit = omega (arith, r.links-fit);
-  buckets-fit = omega (arith, r.buckets-fit);
+  accept_fits = omega (arith, r.accept_fits);
+  sets_fit = omega (arith, r.sets_fit);
+  heads_fit = omega (arith, r.heads_fit);
+  links_fit = omega (arith, r.links_fit);
+  buckets_fit = omega (arith, r.buckets_fit);
 }
 
 -- a row is done
-pub found-row : {p : Projection} {rows accept sets heads links buckets : List ℕ} {n m i a : ℕ} → Posed p → a ≡ p.t.width → Further p rows accept sets heads links buckets n m i a → Further p rows accept sets heads links buckets n m (i + 1) 0
-found-row {p} {rows} {accept} {sets} {heads} {links} {buckets} {n} {m} {i} {a} s e x =
+pub found_row : {p : Projection} {rows accept sets heads links buckets : List ℕ} {n m i a : ℕ} → Posed p → a ≡ p.t.width → Further p rows accept sets heads links buckets n m i a → Further p rows accept sets heads links buckets n m (i + 1) 0
+found_row {p} {rows} {accept} {sets} {heads} {links} {buckets} {n} {m} {i} {a} s e x =
     let P : ℕ → Type 0 = Searching p.k (step_of p) (start_of p) m (member sets p.w) rows p.t.width i in
     let Q : ℕ → Type 0 = λ i. Searching p.k (step_of p) (start_of p) m (member sets p.w) rows p.t.width i 0 in
     let o : suc i ≡ i + 1 = omega arith in
@@ -129,37 +129,37 @@ found-row {p} {rows} {accept} {sets} {heads} {links} {buckets} {n} {m} {i} {a} s
       more = x.more;
       found = record {
         few = x.found.few;
-        searching = subst Q o (searching-row p.k (step_of p) (start_of p) p.t.width s.wide m (member sets p.w) rows i (subst P e x.found.searching));
+        searching = subst Q o (searching_row p.k (step_of p) (start_of p) p.t.width s.wide m (member sets p.w) rows i (subst P e x.found.searching));
         interned = x.found.interned;
         accepted = x.found.accepted;
       };
     }
 
 -- the start alone is found
-first-interned : (sets : List ℕ) (w : ℕ) (heads links buckets : List ℕ) (r : Option ℕ) → MatchOption r (Fresh sets w 0 heads links buckets) (Again sets w 0 heads links buckets) → Interned sets w 1 heads links buckets
-first-interned sets w heads links buckets None x = x.interned
-first-interned sets w heads links buckets (Some j) x = let z : ⊥ = omega (arith, x.earlier) in absurd z
+first_interned : (sets : List ℕ) (w : ℕ) (heads links buckets : List ℕ) (r : Option ℕ) → MatchOption r (Fresh sets w 0 heads links buckets) (Again sets w 0 heads links buckets) → Interned sets w 1 heads links buckets
+first_interned sets w heads links buckets None x = x.interned
+first_interned sets w heads links buckets (Some j) x = let z : ⊥ = omega (arith, x.earlier) in absurd z
 
-pub found-start : {p : Projection} {sets heads links buckets : List ℕ} (accept : List ℕ) (r : Option ℕ) → Posed p → member sets p.w 0 ≡ start_of p → MatchOption r (Fresh sets p.w 0 heads links buckets) (Again sets p.w 0 heads links buckets) → accepts accept 0 ≡ says_of p (member sets p.w 0) → (rows : List ℕ) → Found p rows accept sets heads links buckets 1 0 0
-found-start {p} {sets} {heads} {links} {buckets} accept r s e x t rows = record {
+pub found_start : {p : Projection} {sets heads links buckets : List ℕ} (accept : List ℕ) (r : Option ℕ) → Posed p → member sets p.w 0 ≡ start_of p → MatchOption r (Fresh sets p.w 0 heads links buckets) (Again sets p.w 0 heads links buckets) → accepts accept 0 ≡ says_of p (member sets p.w 0) → (rows : List ℕ) → Found p rows accept sets heads links buckets 1 0 0
+found_start {p} {sets} {heads} {links} {buckets} accept r s e x t rows = record {
   few = omega (arith, s.some, s.few);
-  searching = searching-start p.k (step_of p) (start_of p) p.t.width s.wide (member sets p.w) rows e;
-  interned = first-interned sets p.w heads links buckets r x;
+  searching = searching_start p.k (step_of p) (start_of p) p.t.width s.wide (member sets p.w) rows e;
+  interned = first_interned sets p.w heads links buckets r x;
   accepted = λ j h. (let z : j ≡ 0 = omega arith in subst (λ j. accepts accept j ≡ says_of p (member sets p.w j)) (sym z) t);
 }
 
 -- all rows are done
-found-end : {p : Projection} {rows accept sets heads links buckets : List ℕ} {n : ℕ} → p.t.width ≡ 2 ^ p.k → p.w ≡ words p.t.classes → Found p rows accept sets heads links buckets n n 0 → Projected p.k p.t.classes (entry p.t.rows.now p.t.width) p.dead p.x.0 (accepts p.completed.now) p.most rows accept sets n
-found-end {p} {rows} {accept} {sets} {heads} {links} {buckets} {n} wide e f =
+found_end : {p : Projection} {rows accept sets heads links buckets : List ℕ} {n : ℕ} → p.t.width ≡ 2 ^ p.k → p.w ≡ words p.t.classes → Found p rows accept sets heads links buckets n n 0 → Projected p.k p.t.classes (entry p.t.rows.now p.t.width) p.dead p.x.0 (accepts p.completed.now) p.most rows accept sets n
+found_end {p} {rows} {accept} {sets} {heads} {links} {buckets} {n} wide e f =
     let P : ℕ → Type 0 = λ w. Explored p.k (step_of p) (start_of p) n (member sets w) (entry rows (2 ^ p.k)) in
     let Q : ℕ → Type 0 = λ z. Explored p.k (step_of p) (start_of p) n (member sets p.w) (entry rows z) in
     let R : ℕ → Type 0 = λ w. (i : ℕ) → i < n → accepts accept i ≡ says_of p (member sets w i) in
     record {
       few = f.few;
-      explored = subst P e (subst Q wide (searching-end p.k (step_of p) (start_of p) p.t.width wide n (member sets p.w) rows f.searching));
+      explored = subst P e (subst Q wide (searching_end p.k (step_of p) (start_of p) p.t.width wide n (member sets p.w) rows f.searching));
       accepted = subst R e f.accepted;
     }
 
 pub found_all : (p : Projection) (rows accept sets heads links buckets : List ℕ) (r : Option ℕ) → p.t.width ≡ 2 ^ p.k → p.w ≡ words p.t.classes → MatchOption r (Excess p) (λ n. Found p rows accept sets heads links buckets n n 0) → MatchOption r (Excess p) (Projected p.k p.t.classes (entry p.t.rows.now p.t.width) p.dead p.x.0 (accepts p.completed.now) p.most rows accept sets)
 found_all p rows accept sets heads links buckets None wide e x = x
-found_all p rows accept sets heads links buckets (Some n) wide e x = found-end wide e x
+found_all p rows accept sets heads links buckets (Some n) wide e x = found_end wide e x

@@ -1,7 +1,7 @@
 -- A subset construction on its way: the sets found so far, their rows of the table, and which of them accept.
 use Rattle.std.specs.Prelude.{◌≡◌, ℕ, ◌+◌, ◌*◌, ◌/◌, ◌^◌, ◌<◌, ◌≤◌, Bool, List, length}
-use Rattle.automata.specs.Subsets.{step_set, start-set, accepts-set}
-use Rattle.automata.specs.Search.{Explored, Too-many}
+use Rattle.automata.specs.Subsets.{step_set, start_set, accepts_set}
+use Rattle.automata.specs.Search.{Explored, TooMany}
 use Rattle.tables.specs.Cells.{entry, accepts}
 use Rattle.tables.specs.Search.{Searching}
 use Rattle.subsets.specs.declared.projection.Projection.{Projection}
@@ -14,10 +14,10 @@ abbrev pub step_of : Projection → (ℕ → Bool) → ℕ → ℕ → Bool
 step_of p = step_set p.t.classes (entry p.t.rows.now p.t.width) (lives p.t.classes p.dead) p.x.0
 
 abbrev pub start_of : Projection → ℕ → Bool
-start_of p = start-set (lives p.t.classes p.dead)
+start_of p = start_set (lives p.t.classes p.dead)
 
 abbrev pub says_of : Projection → (ℕ → Bool) → Bool
-says_of p = accepts-set p.t.classes (accepts p.completed.now)
+says_of p = accepts_set p.t.classes (accepts p.completed.now)
 
 -- the sizes fit each other
 pub record Posed (p : Projection) : Type 0 where
@@ -29,16 +29,16 @@ pub record Posed (p : Projection) : Type 0 where
   pub small : p.most < 2 ^ 32
   pub words : p.t.classes ≤ 32 * p.w
   pub short : p.w ≤ p.t.classes
-  pub completed-fits : p.t.classes ≤ length p.completed.now
+  pub completed_fits : p.t.classes ≤ length p.completed.now
 
 -- the memory has room for one set more than may be found
 pub record Room (p : Projection) (rows accept sets heads links buckets : List ℕ) : Type 0 where
   pub rows_fit : p.most * p.t.width ≤ length rows
-  pub accept-fits : p.most ≤ length accept
-  pub sets-fit : (p.most + 1) * p.w ≤ length sets
-  pub heads-fit : 0 < length heads
-  pub links-fit : p.most < length links
-  pub buckets-fit : p.most < length buckets
+  pub accept_fits : p.most ≤ length accept
+  pub sets_fit : (p.most + 1) * p.w ≤ length sets
+  pub heads_fit : 0 < length heads
+  pub links_fit : p.most < length links
+  pub buckets_fit : p.most < length buckets
 
 -- n sets are found, and the table is written up to row i, column a
 pub record Found (p : Projection) (rows accept sets heads links buckets : List ℕ) (n i a : ℕ) : Type 0 where
@@ -62,7 +62,7 @@ pub record Further (p : Projection) (rows accept sets heads links buckets : List
 
 -- more sets are reached than may be found
 abbrev pub Excess : Projection → Type 0
-Excess p = Too-many p.k (step_of p) (start_of p) p.most
+Excess p = TooMany p.k (step_of p) (start_of p) p.most
 
 -- the words of a row with a bit for each of m classes
 abbrev pub words : ℕ → ℕ
@@ -71,5 +71,5 @@ words m = (m + 31) / 32
 -- the search is over: o sets were found, no two of them the same; the table is theirs, and a set accepts if one of its classes is completed
 pub record Projected (k m : ℕ) (δ : ℕ → ℕ → ℕ) (dead x : ℕ) (completed : ℕ → Bool) (most : ℕ) (rows accept sets : List ℕ) (o : ℕ) : Type 0 where
   pub few : o ≤ most
-  pub explored : Explored k (step_set m δ (lives m dead) x) (start-set (lives m dead)) o (member sets (words m)) (entry rows (2 ^ k))
-  pub accepted : (i : ℕ) → i < o → accepts accept i ≡ accepts-set m completed (member sets (words m) i)
+  pub explored : Explored k (step_set m δ (lives m dead) x) (start_set (lives m dead)) o (member sets (words m)) (entry rows (2 ^ k))
+  pub accepted : (i : ℕ) → i < o → accepts accept i ≡ accepts_set m completed (member sets (words m) i)

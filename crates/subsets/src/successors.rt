@@ -2,7 +2,7 @@
 ghost use Rattle.std.specs.Prelude.{◌≡◌, ℕ, ◌+◌, ◌*◌, ◌^◌, ◌<◌, ◌≤◌, length, ◌≢◌};
 ghost use Rattle.tables.specs.Cells.{entry};
 ghost use Rattle.live.specs.Dead.{lives};
-ghost use Rattle.bitsets.specs.Bitrows.{has, row_at, member, Adds, Some-bit, Bits-below, Below};
+ghost use Rattle.bitsets.specs.Bitrows.{has, row_at, member, Adds, SomeBit, BitsBelow, Below};
 ghost use Rattle.subsets.specs.Successors.{Leads, Successors};
 
 use bitsets::bitrows::{clear, insert};
@@ -31,11 +31,11 @@ fn follow_class(t: Table, row: &mut [u32], p: Class, a: u32, b: u32, dead: usize
 
 // The same from each of the classes from + y, y the bits of a word: shifts the word down until no bit is left.
 fn follow_word(t: Table, row: &mut [u32], word: u32, from: usize, a: u32, b: u32, dead: usize)
-    requires inside { Bits-below t.classes from word }
+    requires inside { BitsBelow t.classes from word }
     requires columns { (a < t.width) × (b < t.width) }
     requires room { t.classes ≤ 32 * length row.old }
     requires small { (t.classes < 2 ^ 32) × (from < 2 ^ 40) }
-    ensures { Adds (has row.old) (has row.new) (λ r. Some-bit (Leads (entry t.entry.rows.now t.entry.width) (lives t.entry.classes dead) a b r) from word) }
+    ensures { Adds (has row.old) (has row.new) (λ r. SomeBit (Leads (entry t.entry.rows.now t.entry.width) (lives t.entry.classes dead) a b r) from word) }
 {
     let mut left = word;
     let mut p = from;

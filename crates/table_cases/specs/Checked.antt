@@ -8,5 +8,5 @@ pub record Written (rows accept : List ℕ) (classes k : ℕ) : Type 0 where
   pub some : 0 < classes
   pub few : classes < 2 ^ 32
   pub rows_fit : classes * 2 ^ k ≤ length rows
-  pub accept-fits : classes ≤ length accept
+  pub accept_fits : classes ≤ length accept
   pub below : (q a : ℕ) → q < classes → a < 2 ^ k → entry rows (2 ^ k) q a < classes

@@ -1,6 +1,6 @@
 // A table in lent words: reading and writing the class to which a column leads, and which classes accept.
 ghost use Rattle.std.specs.Prelude.{◌≡◌, ℕ, ◌+◌, ◌*◌, ◌<◌, ◌≤◌, length};
-ghost use Rattle.tables.specs.Cells.{column, entry, put-entry, accepts};
+ghost use Rattle.tables.specs.Cells.{column, entry, put_entry, accepts};
 
 // The number of a class.
 #[derive(Clone, Copy)]
@@ -59,7 +59,7 @@ pub fn get(rows: &[u32], most: usize, width: usize, q: Class, a: u32) -> Class
 // Writes the class to which column a leads from class q, in memory for `most` rows.
 pub fn put(rows: &mut [u32], most: usize, width: usize, q: Class, a: u32, to: Class)
     requires { (most * width ≤ length rows.old) × ((q.0 < most) × (a < width)) }
-    ensures { rows.new ≡ put-entry rows.old width q.0 a to.0 }
+    ensures { rows.new ≡ put_entry rows.old width q.0 a to.0 }
 {
     let from = q.0 as usize * width;
     let row = &mut rows[from..from + width];

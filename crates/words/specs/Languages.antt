@@ -7,8 +7,8 @@ abbrev pub Lang : Type 1
 Lang = Word → Type 0
 
 -- two words leave the same of a language: whatever is put behind both, both are in it or neither is
-abbrev pub Same-left : ℕ → Lang → Word → Word → Type 0
-Same-left k L u v = (x : Word) → Columns k x → L (u ++ x) ↔ L (v ++ x)
+abbrev pub SameLeft : ℕ → Lang → Word → Word → Type 0
+SameLeft k L u v = (x : Word) → Columns k x → L (u ++ x) ↔ L (v ++ x)
 
 -- what stands at a place of a list
 abbrev pub nth : {A : Type 0} → List A → ℕ → Option A

@@ -1,6 +1,6 @@
 // Working a claim out, part by part, in prefix order over its bytes.
 ghost use Rattle.std.specs.Prelude.{ℕ, ◌^◌, ◌<◌, ◌≤◌, ◌∷◌, length};
-ghost use Rattle.working.specs.Working.{Halves, WorkedOut, Lent, is-part};
+ghost use Rattle.working.specs.Working.{Halves, WorkedOut, Lent, IsPart};
 
 use crate::combine::{conjoin, project, work_leaf};
 use claims::prefix::skip;
@@ -11,7 +11,7 @@ use tables::complement::complement;
 
 // The two parts of an and, by the bytes behind its sign: the longer one, and then the shorter.
 fn two_parts(rest: &[u8], k: u8) -> (&[u8], &[u8])
-    requires { is-part k (5 ∷ rest.now) }
+    requires { IsPart k (5 ∷ rest.now) }
     ensures { Halves k (5 ∷ rest.now) result.0.now result.1.now }
 {
     let Some(second) = skip(rest, k) else {
@@ -39,7 +39,7 @@ pub fn work_out(
     scratch: &mut [u32],
     pairs: &mut [u32],
 ) -> Option<usize>
-    requires part { is-part k part.now }
+    requires part { IsPart k part.now }
     requires small { (0 < k) × (k ≤ 12) × (0 < most) × (most < 2 ^ 32) }
     requires lent { Lent (length part.now) k most (length rows.old) (length accept.old) (length free.old) (length scratch.old) (length pairs.old) }
     ensures { WorkedOut k most part.now rows.new accept.new result }

@@ -1,5 +1,5 @@
 use Rattle.std.proofs.Common.{◌<◌, ◌≢◌, length, arith, get_or-set_other, get_or-set_same, below_more}
-use Rattle.bitsets.proofs.BitrowsLaws.{has-none}
+use Rattle.bitsets.proofs.BitrowsLaws.{has_none}
 use Rattle.bitsets.proofs.bitrows.clear.Goals as goal
 
 pub loop-word-preserved : goal.loop-word-preserved
@@ -9,4 +9,4 @@ loop-word-preserved c =
     (let h : c.loop-word.word-index < length c.loop-word.row = omega arith in rw get_or-set_same)
 
 pub returns : goal.returns
-returns c = has-none c.loop-word.row (λ z h. c.loop-word.invariant z (omega arith))
+returns c = has_none c.loop-word.row (λ z h. c.loop-word.invariant z (omega arith))

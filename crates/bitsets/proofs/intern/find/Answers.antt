@@ -1,7 +1,7 @@
 use Rattle.std.proofs.Common.{◌≡◌, ℕ, ◌-◌, true, false, sym, ◌∙◌, arith, rules}
 use mathlib.Core.Bool.{false≢true}
 use Rattle.tables.proofs.CellsLaws.{row_fits}
-use Rattle.bitsets.proofs.InternLaws.{Walk, walk_start, walk-falls, walk-next}
+use Rattle.bitsets.proofs.InternLaws.{Walk, walk_start, walk_falls, walk_next}
 use Rattle.bitsets.proofs.intern.find.Goals as goal
 
 pub loop-next-init : goal.loop-next-init
@@ -20,10 +20,10 @@ pub bounds-links-j : goal.bounds-links-j
 bounds-links-j c = search rules
 
 pub loop-next-smaller : goal.loop-next-smaller
-loop-next-smaller c = walk-falls c.args.sets.now c.args.w c.args.n c.args.heads.now c.args.links.now c.args.buckets.now c.args.h c.requires.interned c.requires.hash c.loop-next.next c.loop-next.invariant c.loop-next-test.true
+loop-next-smaller c = walk_falls c.args.sets.now c.args.w c.args.n c.args.heads.now c.args.links.now c.args.buckets.now c.args.h c.requires.interned c.requires.hash c.loop-next.next c.loop-next.invariant c.loop-next-test.true
 
 pub loop-next-preserved : goal.loop-next-preserved
-loop-next-preserved c = walk-next c.args.sets.now c.args.w c.args.n c.args.heads.now c.args.links.now c.args.buckets.now c.args.h c.requires.interned c.requires.hash c.loop-next.next c.loop-next.invariant c.loop-next-test.true (λ e. false≢true (c.if-same_rows.ensures.1 e))
+loop-next-preserved c = walk_next c.args.sets.now c.args.w c.args.n c.args.heads.now c.args.links.now c.args.buckets.now c.args.h c.requires.interned c.requires.hash c.loop-next.next c.loop-next.invariant c.loop-next-test.true (λ e. false≢true (c.if-same_rows.ensures.1 e))
 
 pub returns : goal.returns
 returns c j o e = c.loop-next.invariant.ruled_out j (omega arith) o e

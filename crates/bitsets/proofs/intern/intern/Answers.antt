@@ -1,15 +1,15 @@
 use Rattle.std.proofs.Common.{◌≡◌, ℕ, ◌+◌, ◌*◌, ◌<◌, ◌≤◌, length, ap, ◌∙◌, arith}
 use Rattle.tables.proofs.CellsLaws.{row_fits}
 use Rattle.bitsets.specs.Bitrows.{row_at}
-use Rattle.bitsets.specs.Intern.{bucket-of}
-use Rattle.bitsets.proofs.BitrowsLaws.{row-part, row-ext}
-use Rattle.bitsets.proofs.InternLaws.{interned-more}
+use Rattle.bitsets.specs.Intern.{bucket_of}
+use Rattle.bitsets.proofs.BitrowsLaws.{row_part, row_ext}
+use Rattle.bitsets.proofs.InternLaws.{interned_more}
 use Rattle.bitsets.proofs.intern.intern.Goals as goal
 
 pub find-requires : goal.find-requires
 find-requires c = record {
   interned = c.requires.interned;
-  hash = c.bucket-h.ensures.value ∙ ap (λ r. bucket-of r (length c.args.heads.now)) (row-part c.args.sets.now c.args.w c.args.n);
+  hash = c.bucket-h.ensures.value ∙ ap (λ r. bucket_of r (length c.args.heads.now)) (row_part c.args.sets.now c.args.w c.args.n);
   room = (c.requires.room.0, c.bucket-h.ensures.below, omega arith, omega arith);
 }
 
@@ -19,8 +19,8 @@ returns-in-None c =
     let w = c.args.w in
     let n = c.args.n in
     record {
-      differs = λ j o e. (let f = row_fits j n w o in c.in-None.ensures j o (row-ext sets w j n (omega arith) c.requires.room.0 (λ z. omega (arith, c.type_inv.sets z)) e));
-      interned = interned-more sets w n c.args.heads.now c.args.links.now c.args.buckets.now c.file.new.heads c.file.new.links c.file.new.buckets c.bucket-h.result
+      differs = λ j o e. (let f = row_fits j n w o in c.in-None.ensures j o (row_ext sets w j n (omega arith) c.requires.room.0 (λ z. omega (arith, c.type_inv.sets z)) e));
+      interned = interned_more sets w n c.args.heads.now c.args.links.now c.args.buckets.now c.file.new.heads c.file.new.links c.file.new.buckets c.bucket-h.result
           c.requires.interned c.file.ensures.chained c.file.ensures.filed c.requires.room.3 (omega arith)
-          (c.bucket-h.ensures.value ∙ ap (λ r. bucket-of r (length c.args.heads.now)) (row-part sets w n));
+          (c.bucket-h.ensures.value ∙ ap (λ r. bucket_of r (length c.args.heads.now)) (row_part sets w n));
     }

@@ -1,7 +1,7 @@
 use Rattle.std.proofs.Common.{◌≡◌, ℕ, ◌+◌, ◌-◌, ◌≤◌, List, ◌++◌, length, take, drop, sym, ap, ◌∙◌, subst, append_assoc, arith, length-append, length-drop}
 use Rattle.std.proofs.lemmas.List.{take_rest, take-append-drop, drop_at}
 use Rattle.claims.specs.Rows.{row}
-use Rattle.claims.specs.Fronts.{No-front}
+use Rattle.claims.specs.Fronts.{NoFront}
 use Rattle.claims.proofs.FrontLaws.{shorter}
 use Rattle.claims.proofs.prefix.part_end.Goals as goal
 
@@ -31,4 +31,4 @@ returns-in-Some c =
     (omega arith, (d, record { rows = ap (λ z. row d ++ z) q.1 ∙ e; fine = f.fine }))
 
 pub returns-in-None : goal.returns-in-None
-returns-in-None c = subst (No-front c.args.k) (take_rest c.args.bytes.now c.args.at) c.in-None.ensures
+returns-in-None c = subst (NoFront c.args.k) (take_rest c.args.bytes.now c.args.at) c.in-None.ensures

@@ -2,7 +2,7 @@ use Rattle.std.proofs.Common.{◌≡◌, ◌^◌, subst, arith}
 use Rattle.std.proofs.lemmas.Nat.{one_shl}
 use Rattle.tables.specs.Cells.{entry}
 use Rattle.firsts.specs.Search.{Seeking}
-use Rattle.firsts.proofs.SearchLaws.{seeking-row}
+use Rattle.firsts.proofs.SearchLaws.{seeking_row}
 use Rattle.firsts.proofs.search.follow_all.Goals as goal
 
 pub returns : goal.returns
@@ -13,6 +13,6 @@ returns c =
     let all : s.a ≡ 2 ^ c.args.k = omega arith in
     record {
       more = s.invariant.0;
-      so_far = seeking-row c.args.k t.classes (entry t.rows.now t.width) s.count s.queue s.number s.prev s.via c.args.i
+      so_far = seeking_row c.args.k t.classes (entry t.rows.now t.width) s.count s.queue s.number s.prev s.via c.args.i
           (subst (Seeking c.args.k t.classes (entry t.rows.now t.width) s.count s.queue s.number s.prev s.via c.args.i) all s.invariant.1);
     }

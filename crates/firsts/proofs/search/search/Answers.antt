@@ -1,13 +1,13 @@
 use Rattle.std.proofs.Common.{◌≡◌, subst, arith}
 use Rattle.tables.specs.Cells.{entry}
 use Rattle.firsts.specs.Search.{Seeking}
-use Rattle.firsts.proofs.SearchLaws.{seeking-start, seeking-end}
+use Rattle.firsts.proofs.SearchLaws.{seeking_start, seeking_end}
 use Rattle.firsts.proofs.search.search.Goals as goal
 
 pub loop-i-init : goal.loop-i-init
 loop-i-init c =
     let t = c.args.t in
-    (omega arith, seeking-start c.args.k t.classes (entry t.rows.now t.width) c.args.queue.now c.args.number.now c.args.prev.now c.args.via.now c.requires.table.1.1.0 c.requires.room)
+    (omega arith, seeking_start c.args.k t.classes (entry t.rows.now t.width) c.args.queue.now c.args.number.now c.args.prev.now c.args.via.now c.requires.table.1.1.0 c.requires.room)
 
 pub overflow_add-i : goal.overflow_add-i
 overflow_add-i c = omega (arith, c.loop-i.invariant.1.few)
@@ -17,5 +17,5 @@ returns c =
     let t = c.args.t in
     let s = c.loop-i in
     let e : s.i ≡ s.found = omega arith in
-    seeking-end c.args.k t.classes (entry t.rows.now t.width) s.found s.queue s.number s.prev s.via
+    seeking_end c.args.k t.classes (entry t.rows.now t.width) s.found s.queue s.number s.prev s.via
     (subst (λ i. Seeking c.args.k t.classes (entry t.rows.now t.width) s.found s.queue s.number s.prev s.via i 0) e s.invariant.1)

@@ -1,6 +1,6 @@
 use Rattle.std.proofs.Common.{◌≡◌, ◌<◌, length, ap, ◌∙◌, arith}
 use Rattle.firsts.specs.Spell.{word, Falls}
-use Rattle.firsts.proofs.SpellLaws.{word-start, length-step}
+use Rattle.firsts.proofs.SpellLaws.{word_start, length_step}
 use Rattle.firsts.proofs.spell.word_length.Goals as goal
 
 pub loop-at-preserved : goal.loop-at-preserved
@@ -9,9 +9,9 @@ loop-at-preserved c =
     let above : 0 < c.loop-at.at = omega arith in
     let falls : Falls c.args.prev.now c.loop-at.at = λ i a b. c.requires.falls i a (omega arith) in
     let lower = falls c.loop-at.at above (omega arith) in
-    (omega arith, λ via. omega (arith, same via, length-step c.args.prev.now via c.loop-at.at above falls))
+    (omega arith, λ via. omega (arith, same via, length_step c.args.prev.now via c.loop-at.at above falls))
 
 pub returns : goal.returns
 returns c via =
-    let empty : length (word c.args.prev.now via c.loop-at.at) ≡ 0 = ap (λ i. length (word c.args.prev.now via i)) c.loop-at-test.false ∙ ap length (word-start c.args.prev.now via) in
+    let empty : length (word c.args.prev.now via c.loop-at.at) ≡ 0 = ap (λ i. length (word c.args.prev.now via i)) c.loop-at-test.false ∙ ap length (word_start c.args.prev.now via) in
     omega (arith, c.loop-at.invariant.1 via)

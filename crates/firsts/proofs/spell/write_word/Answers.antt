@@ -1,11 +1,11 @@
 use Rattle.std.proofs.Common.{◌-◌, get_or, sym, ◌∙◌, arith}
 use Rattle.std.proofs.lemmas.List.{length-set}
 use Rattle.firsts.specs.Spell.{Falls}
-use Rattle.firsts.proofs.SpellLaws.{word-above, length-step, write-start, write_step, write-end}
+use Rattle.firsts.proofs.SpellLaws.{word_above, length_step, write_start, write_step, write_end}
 use Rattle.firsts.proofs.spell.write_word.Goals as goal
 
 pub loop-left-init : goal.loop-left-init
-loop-left-init c = (omega arith, c.requires.exact, omega arith, write-start c.args.prev.now c.args.via.now c.args.out.now c.args.j)
+loop-left-init c = (omega arith, c.requires.exact, omega arith, write_start c.args.prev.now c.args.via.now c.args.out.now c.args.j)
 
 pub loop-left-preserved : goal.loop-left-preserved
 loop-left-preserved c =
@@ -16,13 +16,13 @@ loop-left-preserved c =
     let out = c.loop-left.out in
     let n = c.loop-left.left in
     let falls : Falls prev i = λ p a b. c.requires.falls p a (omega arith) in
-    let above = word-above prev via i (omega arith) in
+    let above = word_above prev via i (omega arith) in
     let lower = falls i above (omega arith) in
-    let shorter = length-step prev via i above falls in
+    let shorter = length_step prev via i above falls in
     let kept = length-set out (n - 1) (get_or via i 0) in
     (omega arith, omega arith, omega arith, write_step prev via out i n (n - 1) (omega arith) room long falls ∙ same)
 
 pub returns : goal.returns
 returns c =
     let (h, long, room, same) = c.loop-left.invariant in
-    sym (write-end c.args.prev.now c.args.via.now c.loop-left.out c.loop-left.at c.loop-left.left (omega arith) long) ∙ same
+    sym (write_end c.args.prev.now c.args.via.now c.loop-left.out c.loop-left.at c.loop-left.left (omega arith) long) ∙ same

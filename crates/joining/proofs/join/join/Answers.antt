@@ -1,43 +1,43 @@
 use Rattle.std.proofs.Common.{◌≡◌, ℕ, ◌^◌, ◌<◌, get_or, sym, arith}
 use Rattle.std.proofs.lemmas.Nat.{one_shl}
 use Rattle.tables.specs.Cells.{accepts, entry}
-use Rattle.joining.proofs.PartsLaws.{parts-few}
-use Rattle.joining.proofs.RoundsLaws.{Done, coarse-start, coarse-copied, refined-column, coarse-column, round-more, done-same, done-alone, done-copied}
+use Rattle.joining.proofs.PartsLaws.{parts_few}
+use Rattle.joining.proofs.RoundsLaws.{Done, coarse_start, coarse_copied, refined_column, coarse_column, round_more, done_same, done_alone, done_copied}
 use Rattle.joining.proofs.join.join.Goals as goal
 use Rattle.joining.proofs.join.join.Goals.{then-loop-column-test+then-count-t, else-loop-column-test+then-count-before}
 
 pub refine-init : goal.refine-init
-refine-init c = (c.copy.ensures, coarse-start c.by_acceptance-count.ensures c.args.k (entry c.args.t.rows.now c.args.t.width))
+refine-init c = (c.copy.ensures, coarse_start c.by_acceptance-count.ensures c.args.k (entry c.args.t.rows.now c.args.t.width))
 
 pub renumber-count-requires : goal.renumber-count-requires
 renumber-count-requires c =
     let w = one_shl c.args.k 32 (omega arith) in
     let cls = c.refine.invariant.1.parts in
     let cur = c.loop-column.invariant.0.parts in
-    let a = parts-few cls in
-    let b = parts-few cur in
+    let a = parts_few cls in
+    let b = parts_few cur in
     record {
       table = (omega arith, omega arith);
-      room = (omega arith, omega arith, omega arith, record { lefts-fit = omega arith; rights-fit = omega arith; index-fits = omega arith });
+      room = (omega arith, omega arith, omega arith, record { lefts_fit = omega arith; rights_fit = omega arith; index_fits = omega arith });
       below = λ q h. (omega (arith, cls.below q h), omega (arith, cur.below q h));
     }
 
 pub loop-column-preserved : goal.loop-column-preserved
 loop-column-preserved c =
     let w = one_shl c.args.k 32 (omega arith) in (
-      coarse-column c.requires.table.1 c.args.t.below c.refine.invariant.1 c.loop-column.invariant.1 c.renumber-count.ensures (omega arith),
-      refined-column c.requires.table.1 c.args.t.below c.refine.invariant.1 c.loop-column.invariant.1 c.renumber-count.ensures,
+      coarse_column c.requires.table.1 c.args.t.below c.refine.invariant.1 c.loop-column.invariant.1 c.renumber-count.ensures (omega arith),
+      refined_column c.requires.table.1 c.args.t.below c.refine.invariant.1 c.loop-column.invariant.1 c.renumber-count.ensures,
     )
 
 -- a round that does not end the rounds has made more parts
 pub refine-smaller : goal.refine-smaller
 refine-smaller c =
-    let more = round-more c.requires.table.1 c.args.t.below c.refine.invariant.1 c.loop-column.invariant.1 c.loop-column.invariant.0 in
-    let few = parts-few c.loop-column.invariant.0.parts in
+    let more = round_more c.requires.table.1 c.args.t.below c.refine.invariant.1 c.loop-column.invariant.1 c.loop-column.invariant.0 in
+    let few = parts_few c.loop-column.invariant.0.parts in
     omega arith
 
 pub refine-preserved : goal.refine-preserved
-refine-preserved c = (λ q h. sym (c.copy-in-refine.ensures q h), coarse-copied c.loop-column.invariant.0 (λ q. get_or c.copy-in-refine.new.to q 0) c.copy-in-refine.ensures)
+refine-preserved c = (λ q h. sym (c.copy-in-refine.ensures q h), coarse_copied c.loop-column.invariant.0 (λ q. get_or c.copy-in-refine.new.to q 0) c.copy-in-refine.ensures)
 
 -- either every class is alone, or a whole round made no part more
 pub returns : goal.returns
@@ -47,10 +47,10 @@ returns c =
     let end = c.loop-column-test in
     let done : Done c.args.k t.classes (entry t.rows.now t.width) (accepts t.accept.now) (λ q. get_or end.cur q 0) (λ i. get_or end.firsts i 0) end.count = elim end.branch [
       | then-loop-column-test+then-count-t v ↦
-          let d = coarse-column c.requires.table.1 t.below c.refine.invariant.1 c.loop-column.invariant.1 v.renumber-count.ensures (omega arith) in
-          rw (v.cur-is, v.firsts-is, v.count-is) (done-alone c.requires.table.1 t.below d v.if-count-t.true (omega arith))
+          let d = coarse_column c.requires.table.1 t.below c.refine.invariant.1 c.loop-column.invariant.1 v.renumber-count.ensures (omega arith) in
+          rw (v.cur-is, v.firsts-is, v.count-is) (done_alone c.requires.table.1 t.below d v.if-count-t.true (omega arith))
       | else-loop-column-test+then-count-before v ↦
-          rw (v.cur-is, v.firsts-is, v.count-is) (done-same c.requires.table.1 t.below c.refine.invariant.1 c.loop-column.invariant.1 c.loop-column.invariant.0 (omega arith) v.if-count-before.true (omega arith))
+          rw (v.cur-is, v.firsts-is, v.count-is) (done_same c.requires.table.1 t.below c.refine.invariant.1 c.loop-column.invariant.1 c.loop-column.invariant.0 (omega arith) v.if-count-before.true (omega arith))
     ] in
-    let copied = done-copied done (omega arith) (λ q. get_or c.copy-2.new.to q 0) c.copy-2.ensures in
-    record { joined = copied.joined; parts = copied.parts; few = parts-few copied.parts }
+    let copied = done_copied done (omega arith) (λ q. get_or c.copy-2.new.to q 0) c.copy-2.ensures in
+    record { joined = copied.joined; parts = copied.parts; few = parts_few copied.parts }

@@ -1,6 +1,6 @@
 use Rattle.std.proofs.Common.{◌≡◌, ℕ, ◌-◌, ◌%◌, ◌<◌, ◌≤◌, ◌⊎◌, List, [], ◌∷◌, ◌++◌, length, get_or, take, drop, vec_items, sym, refl, ap, ◌∙◌, subst, inl, inr, append_assoc, append-nil, arith, rules}
 use Rattle.lines.specs.Line.{Pair, Pairs, Field}
-use Rattle.lines.proofs.LineLaws.{pairs-even, pairs-step, pairs_end}
+use Rattle.lines.proofs.LineLaws.{pairs_even, pairs_step, pairs_end}
 use Rattle.lines.proofs.line.read_bytes.Goals as goal
 use Rattle.lines.proofs.line.read_bytes.Goals.{else-field-eq1-via-then-field-eq1+else-field-eq45, else-field-eq1-via-else-field-eq1}
 
@@ -11,7 +11,7 @@ returns-then-field-eq1-2 c = inr (λ t h. elim h [
     | else-field-eq1-via-then-field-eq1+else-field-eq45 w ↦ w.if-field-eq45.false f
     | else-field-eq1-via-else-field-eq1 w ↦ w.if-field-eq1.false l
   ])
-  | inr p ↦ (let e = pairs-even c.args.field.now t p in omega arith)
+  | inr p ↦ (let e = pairs_even c.args.field.now t p in omega arith)
 ])
 
 pub loop-rest-init : goal.loop-rest-init
@@ -23,7 +23,7 @@ returns-in_default-hex_pair c = inr (λ t h. elim h [
   | inl p ↦ (let l = ap length p.0 in omega arith)
   | inr p ↦
       let q = c.loop-rest.invariant.2 t p in
-      let (v, r, w, m, e) = (pairs-step c.loop-rest.rest.now q.0 (search rules)).0 q.1 in
+      let (v, r, w, m, e) = (pairs_step c.loop-rest.rest.now q.0 (search rules)).0 q.1 in
       c.in_default-hex_pair.ensures v w
 ])
 
@@ -36,11 +36,11 @@ loop-rest-preserved c =
     let e : vec_items c.push.new.self ≡ done ++ (v ∷ []) = search rules in (
       search rules,
       λ t h.
-          (let p : Pairs s (v ∷ t) = (pairs-step s (v ∷ t) l).1 (v, t, c.in-Some.ensures, h, refl) in
+          (let p : Pairs s (v ∷ t) = (pairs_step s (v ∷ t) l).1 (v, t, c.in-Some.ensures, h, refl) in
           subst (Pairs c.args.field.now) (sym (ap (λ z. z ++ t) e ∙ append_assoc done (v ∷ []) t)) (c.loop-rest.invariant.1 (v ∷ t) p)),
       λ t h.
           (let q = c.loop-rest.invariant.2 t h in
-          let (w, r, x, m, g) = (pairs-step s q.0 l).0 q.1 in
+          let (w, r, x, m, g) = (pairs_step s q.0 l).0 q.1 in
           (r, m)),
     )
 

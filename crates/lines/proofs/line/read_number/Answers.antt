@@ -1,6 +1,6 @@
 use Rattle.std.proofs.Common.{◌≡◌, ℕ, ◌+◌, ◌-◌, ◌*◌, ◌<◌, ◌≤◌, length, get_or, take, drop, sym, subst, arith, rules}
 use Rattle.lines.specs.Line.{Decimal}
-use Rattle.lines.proofs.LineLaws.{grows, decimal_step, decimal-end}
+use Rattle.lines.proofs.LineLaws.{grows, decimal_step, decimal_end}
 use Rattle.lines.proofs.line.read_number.Goals as goal
 use Rattle.lines.proofs.line.read_number.Goals.{then-d-lt48-via-then-d-lt48, then-d-lt48-via-else-d-lt48+then-d-gt57}
 
@@ -39,4 +39,4 @@ loop-rest-preserved c =
     )
 
 pub returns : goal.returns
-returns c = (search rules, (c.loop-rest.invariant.1 c.loop-rest.n).0 (decimal-end c.loop-rest.rest.now c.loop-rest.n (search rules)))
+returns c = (search rules, (c.loop-rest.invariant.1 c.loop-rest.n).0 (decimal_end c.loop-rest.rest.now c.loop-rest.n (search rules)))

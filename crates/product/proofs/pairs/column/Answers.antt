@@ -1,9 +1,9 @@
-use Rattle.product.proofs.PairsLaws.{row_old, row-many, row_new}
+use Rattle.product.proofs.PairsLaws.{row_old, row_many, row_new}
 use Rattle.product.proofs.pairs.column.Goals as goal
 
 pub returns-then-count-f : goal.returns-then-count-f
 returns-then-count-f c =
-    row-many c.requires.so_far c.requires.room c.requires.within
+    row_many c.requires.so_far c.requires.room c.requires.within
     c.next-x.ensures.value c.next-y.ensures.value c.in-None.ensures c.if-count-f.true
 
 pub returns-in-Some : goal.returns-in-Some

@@ -1,14 +1,14 @@
 use Rattle.std.proofs.Common.{◌≡◌, sym, subst, arith}
 use Rattle.tables.specs.Cells.{entry}
 use Rattle.bitsets.specs.Bitrows.{Below}
-use Rattle.bitsets.proofs.InternLaws.{interned-start}
-use Rattle.subsets.proofs.ProjectionLaws.{start-below}
-use Rattle.subsets.proofs.FoundLaws.{found-start}
+use Rattle.bitsets.proofs.InternLaws.{interned_start}
+use Rattle.subsets.proofs.ProjectionLaws.{start_below}
+use Rattle.subsets.proofs.FoundLaws.{found_start}
 use Rattle.subsets.proofs.projection.begin.Goals as goal
 
 pub intern-requires : goal.intern-requires
 intern-requires c = record {
-  interned = interned-start c.start_set.new.sets c.args.p.now.w c.args.heads.now c.args.links.now c.args.buckets.now;
+  interned = interned_start c.start_set.new.sets c.args.p.now.w c.args.heads.now c.args.links.now c.args.buckets.now;
   room = (omega arith, c.requires.room.2, c.requires.room.3, c.requires.room.4, omega arith);
 }
 
@@ -17,9 +17,9 @@ mark-requires c =
     let p = c.args.p.now in
     record {
       posed = c.requires.posed;
-      inside = subst (Below p.t.classes) (sym c.start_set.ensures) (start-below p.t.classes p.dead (entry p.t.rows.now p.t.width) p.x.0);
+      inside = subst (Below p.t.classes) (sym c.start_set.ensures) (start_below p.t.classes p.dead (entry p.t.rows.now p.t.width) p.x.0);
       room = (omega arith, c.requires.room.0);
     }
 
 pub returns : goal.returns
-returns c = found-start c.mark.new.accept c.intern.result c.requires.posed c.start_set.ensures c.intern.ensures c.mark.ensures.told
+returns c = found_start c.mark.new.accept c.intern.result c.requires.posed c.start_set.ensures c.intern.ensures c.mark.ensures.told

@@ -1,9 +1,9 @@
 use Rattle.std.proofs.Common.{true, false, arith}
-use Rattle.words.proofs.BitsLaws.{put-bit-below}
+use Rattle.words.proofs.BitsLaws.{put_bit_below}
 use Rattle.tables.specs.Cells.{entry}
 use Rattle.bitsets.specs.Bitrows.{member}
 use Rattle.live.specs.Dead.{lives}
-use Rattle.subsets.proofs.ProjectionLaws.{put_is, put_same, step-made}
+use Rattle.subsets.proofs.ProjectionLaws.{put_is, put_same, step_made}
 use Rattle.subsets.proofs.projection.next_set.Goals as goal
 
 pub follow-requires : goal.follow-requires
@@ -11,7 +11,7 @@ follow-requires c =
     let p = c.args.p.now in
     let s = c.requires.posed in
     let e = put_is p.x.0 c.args.a c.with_bit-b.result true c.with_bit-b.ensures.here c.with_bit-b.ensures.others in
-    let b = put-bit-below p.k p.x.0 true c.args.a s.bound (omega (arith, s.wide, c.requires.place.2)) in
+    let b = put_bit_below p.k p.x.0 true c.args.a s.bound (omega (arith, s.wide, c.requires.place.2)) in
     record {
       order = c.requires.place.0;
       inside = c.requires.inside;
@@ -27,7 +27,7 @@ returns c =
     let a = c.args.a in
     let b = c.with_bit-b.result in
     record {
-      made = step-made p.t.classes (entry p.t.rows.now p.t.width) (lives p.t.classes p.dead) x (member c.args.sets.now p.w c.args.i) (member c.follow.new.sets p.w c.args.n) a b
+      made = step_made p.t.classes (entry p.t.rows.now p.t.width) (lives p.t.classes p.dead) x (member c.args.sets.now p.w c.args.i) (member c.follow.new.sets p.w c.args.n) a b
           c.requires.inside (put_same x a false c.requires.without) (put_is x a b true c.with_bit-b.ensures.here c.with_bit-b.ensures.others) c.follow.ensures.made;
       kept = c.follow.ensures.kept;
     }

@@ -1,7 +1,7 @@
 use Rattle.std.proofs.Common.{◌≡◌, ℕ, ◌+◌, subst, arith, pow_pos, rules}
 use Rattle.tables.proofs.CellsLaws.{row_fits}
 use Rattle.subsets.specs.Projection.{Found}
-use Rattle.subsets.proofs.FoundLaws.{room-kept}
+use Rattle.subsets.proofs.FoundLaws.{room_kept}
 use Rattle.subsets.proofs.projection.search.Goals as goal
 
 pub begin-requires : goal.begin-requires
@@ -12,7 +12,7 @@ begin-requires c =
     let f = row_fits 0 (p.most + 1) p.w (omega arith) in
     record {
       posed = s;
-      room = (omega (arith, s.some, s.few, r.accept-fits), omega (arith, r.sets-fit), r.heads-fit, omega (arith, r.links-fit), omega (arith, r.buckets-fit));
+      room = (omega (arith, s.some, s.few, r.accept_fits), omega (arith, r.sets_fit), r.heads_fit, omega (arith, r.links_fit), omega (arith, r.buckets_fit));
     }
 
 pub loop-i-init : goal.loop-i-init
@@ -23,7 +23,7 @@ row-requires c =
     let k = c.loop-i.auto in
     record {
       posed = c.requires.posed;
-      room = room-kept c.loop-i.rows c.loop-i.accept c.loop-i.sets c.loop-i.heads c.loop-i.links c.loop-i.buckets c.requires.room k.rows (omega arith) (omega arith) (omega arith) (omega arith) (omega arith);
+      room = room_kept c.loop-i.rows c.loop-i.accept c.loop-i.sets c.loop-i.heads c.loop-i.links c.loop-i.buckets c.requires.room k.rows (omega arith) (omega arith) (omega arith) (omega arith) (omega arith);
       found = c.loop-i.invariant.1;
       row = c.loop-i-test.true;
       column = omega (arith, c.requires.posed.wide, pow_pos c.args.p.now.k);

@@ -3,7 +3,7 @@ use mathlib.Core.Bool.{false≢true}
 use borrow.Rule.Slice.PartMut.{post_of}
 use Rattle.bitsets.specs.Bitrows.{has}
 use Rattle.bitsets.proofs.BitrowsLaws.{row_first}
-use Rattle.subsets.proofs.ProjectionLaws.{start-made}
+use Rattle.subsets.proofs.ProjectionLaws.{start_made}
 use Rattle.subsets.proofs.projection.start_set.Goals as goal
 
 pub returns : goal.returns
@@ -12,7 +12,7 @@ returns c =
     let row = c.put_live.new.row in
     let l = length-take (p.w - 0) c.args.sets.now in
     ap has (row_first row (post_of 0 (p.w - 0) c.args.sets.now) p.w (omega arith))
-    ∙ start-made p.t.classes p.dead (has row) c.requires.posed.some (λ q. (
+    ∙ start_made p.t.classes p.dead (has row) c.requires.posed.some (λ q. (
       λ t. elim ((c.put_live.ensures q).0 t) [ inl u ↦ absurd (false≢true (sym (c.clear.ensures q) ∙ u)) | inr u ↦ u ],
       λ u. (c.put_live.ensures q).1 (inr u),
     ))

@@ -1,36 +1,36 @@
 use Rattle.std.proofs.Common.{arith}
-use Rattle.subsets.proofs.FoundLaws.{set_below, set-fits, new-interned, new-below, found-again, found-fresh, found-many}
+use Rattle.subsets.proofs.FoundLaws.{set_below, set_fits, new_interned, new_below, found_again, found_fresh, found_many}
 use Rattle.subsets.proofs.projection.work_out.Goals as goal
 
 pub next_set-requires : goal.next_set-requires
 next_set-requires c =
     let y = c.requires.ready in
-    record { posed = y.posed; inside = set_below y c.args.i y.row; place = (y.row, set-fits y, y.column); without = c.requires.without }
+    record { posed = y.posed; inside = set_below y c.args.i y.row; place = (y.row, set_fits y, y.column); without = c.requires.without }
 
 pub intern-requires : goal.intern-requires
 intern-requires c =
     let y = c.requires.ready in
-    let h = set-fits y in
+    let h = set_fits y in
     record {
-      interned = new-interned y c.next_set.new.sets c.next_set.ensures.made c.next_set.ensures.kept;
-      room = (omega arith, y.room.heads-fit, omega (arith, y.room.links-fit, y.found.few), omega (arith, y.room.buckets-fit, y.found.few), omega (arith, y.posed.small, y.found.few));
+      interned = new_interned y c.next_set.new.sets c.next_set.ensures.made c.next_set.ensures.kept;
+      room = (omega arith, y.room.heads_fit, omega (arith, y.room.links_fit, y.found.few), omega (arith, y.room.buckets_fit, y.found.few), omega (arith, y.posed.small, y.found.few));
     }
 
 pub returns-then-n-p : goal.returns-then-n-p
-returns-then-n-p c = found-many c.requires.ready c.next_set.new.sets c.next_set.ensures.made c.next_set.ensures.kept c.args.rows.now c.in-None.ensures c.if-n-p.true
+returns-then-n-p c = found_many c.requires.ready c.next_set.new.sets c.next_set.ensures.made c.next_set.ensures.kept c.args.rows.now c.in-None.ensures c.if-n-p.true
 
 pub mark-requires : goal.mark-requires
 mark-requires c =
     let y = c.requires.ready in
-    let h = set-fits y in
+    let h = set_fits y in
     record {
       posed = y.posed;
-      inside = new-below y c.next_set.new.sets c.next_set.ensures.made c.next_set.ensures.kept;
-      room = (omega arith, omega (arith, y.room.accept-fits, y.found.few, c.if-n-p.false));
+      inside = new_below y c.next_set.new.sets c.next_set.ensures.made c.next_set.ensures.kept;
+      room = (omega arith, omega (arith, y.room.accept_fits, y.found.few, c.if-n-p.false));
     }
 
 pub returns-in-Some : goal.returns-in-Some
-returns-in-Some c = found-again c.requires.ready c.next_set.new.sets c.next_set.ensures.made c.next_set.ensures.kept c.put.new.rows c.in-Some.ensures c.put.ensures
+returns-in-Some c = found_again c.requires.ready c.next_set.new.sets c.next_set.ensures.made c.next_set.ensures.kept c.put.new.rows c.in-Some.ensures c.put.ensures
 
 pub returns-else-n-p : goal.returns-else-n-p
-returns-else-n-p c = found-fresh c.requires.ready c.next_set.new.sets c.next_set.ensures.made c.next_set.ensures.kept c.put-in-None.new.rows c.mark.new.accept c.in-None.ensures c.if-n-p.false c.mark.ensures.told c.mark.ensures.kept c.put-in-None.ensures
+returns-else-n-p c = found_fresh c.requires.ready c.next_set.new.sets c.next_set.ensures.made c.next_set.ensures.kept c.put-in-None.new.rows c.mark.new.accept c.in-None.ensures c.if-n-p.false c.mark.ensures.told c.mark.ensures.kept c.put-in-None.ensures

@@ -3,8 +3,8 @@ use Rattle.tables.specs.Cells.{entry}
 use Rattle.bitsets.specs.Bitrows.{has}
 use Rattle.live.specs.Dead.{lives}
 use Rattle.subsets.specs.Successors.{Leads}
-use Rattle.bitsets.proofs.BitrowsLaws.{bits-below-now, bits-below-later}
-use Rattle.subsets.proofs.SuccessorsLaws.{Ahead, ahead-put, ahead-skip, ahead-end}
+use Rattle.bitsets.proofs.BitrowsLaws.{bits_below_now, bits_below_later}
+use Rattle.subsets.proofs.SuccessorsLaws.{Ahead, ahead_put, ahead_skip, ahead_end}
 use Rattle.subsets.proofs.successors.follow_word.Goals as goal
 use Rattle.subsets.proofs.successors.follow_word.Goals.{then-left-eq1, else-left-eq1}
 
@@ -12,10 +12,10 @@ pub loop-left-init : goal.loop-left-init
 loop-left-init c = (c.requires.inside, omega arith, λ r. (λ s. s, λ s. s))
 
 pub overflow_cast-p : goal.overflow_cast-p
-overflow_cast-p c = let h = bits-below-now c.args.t.classes c.loop-left.p c.loop-left.left c.loop-left.invariant.0 c.if-left-eq1.true in search rules
+overflow_cast-p c = let h = bits_below_now c.args.t.classes c.loop-left.p c.loop-left.left c.loop-left.invariant.0 c.if-left-eq1.true in search rules
 
 pub follow_class-requires : goal.follow_class-requires
-follow_class-requires c = let h = bits-below-now c.args.t.classes c.loop-left.p c.loop-left.left c.loop-left.invariant.0 c.if-left-eq1.true in search rules
+follow_class-requires c = let h = bits_below_now c.args.t.classes c.loop-left.p c.loop-left.left c.loop-left.invariant.0 c.if-left-eq1.true in search rules
 
 pub overflow_add-p : goal.overflow_add-p
 overflow_add-p c = search rules
@@ -30,15 +30,15 @@ loop-left-preserved c =
     let left = c.loop-left.left in
     let h : Ahead L X from word (has c.loop-left.row) p left = c.loop-left.invariant.2 in
     let P : List ℕ → Type 0 = λ row. Ahead L X from word (has row) (p + 1) (left / 2) in (
-      bits-below-later c.args.t.classes p left c.loop-left.invariant.0,
+      bits_below_later c.args.t.classes p left c.loop-left.invariant.0,
       omega arith,
       elim c.if-left-eq1.branch [
-        | then-left-eq1 w ↦ subst P (sym w.row-is) (ahead-put L X from word (has c.loop-left.row) p left h _ w.if-left-eq1.true w.follow_class.ensures)
-        | else-left-eq1 w ↦ subst P (sym w.row-is) (ahead-skip L X from word (has c.loop-left.row) p left h w.if-left-eq1.false)
+        | then-left-eq1 w ↦ subst P (sym w.row-is) (ahead_put L X from word (has c.loop-left.row) p left h _ w.if-left-eq1.true w.follow_class.ensures)
+        | else-left-eq1 w ↦ subst P (sym w.row-is) (ahead_skip L X from word (has c.loop-left.row) p left h w.if-left-eq1.false)
       ],
     )
 
 pub returns : goal.returns
 returns c =
     let L : ℕ → ℕ → Type 0 = Leads (entry c.args.t.rows.now c.args.t.width) (lives c.args.t.classes c.args.dead) c.args.a c.args.b in
-    ahead-end L (has c.args.row.now) c.args.from c.args.word (has c.loop-left.row) c.loop-left.p c.loop-left.left c.loop-left.invariant.2 c.loop-left-test.false
+    ahead_end L (has c.args.row.now) c.args.from c.args.word (has c.loop-left.row) c.loop-left.p c.loop-left.left c.loop-left.invariant.2 c.loop-left-test.false

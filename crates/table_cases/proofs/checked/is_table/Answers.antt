@@ -14,6 +14,6 @@ returns c e =
       some = omega arith;
       few = omega arith;
       rows_fit = rw (sym w) (omega arith);
-      accept-fits = omega arith;
+      accept_fits = omega arith;
       below = λ q a h g. subst (λ z. entry c.args.rows.now z q a < c.args.classes) w (c.loop-q.invariant q (omega arith) a (rw w g));
     }

@@ -1,5 +1,5 @@
 use Rattle.std.proofs.Common.{arith, rules}
-use Rattle.tables.proofs.CellsLaws.{row_fits, column-below, row_put}
+use Rattle.tables.proofs.CellsLaws.{row_fits, column_below, row_put}
 use Rattle.tables.proofs.cells.put.Goals as goal
 
 pub offset_bounds-rows-from : goal.offset_bounds-rows-from
@@ -11,11 +11,11 @@ slice_bounds-row-end c = let p = row_fits c.args.q.0 c.args.most c.args.width (o
 pub offset_bounds-row-place : goal.offset_bounds-row-place
 offset_bounds-row-place c =
     let p = row_fits c.args.q.0 c.args.most c.args.width (omega arith) in
-    let b = column-below c.args.a c.args.width (omega arith) in
+    let b = column_below c.args.a c.args.width (omega arith) in
     search rules
 
 pub bounds-row-place : goal.bounds-row-place
-bounds-row-place c = let b = column-below c.args.a c.args.width (omega arith) in search rules
+bounds-row-place c = let b = column_below c.args.a c.args.width (omega arith) in search rules
 
 pub returns : goal.returns
 returns c = row_put c.args.rows.now c.args.width c.args.q.0 c.args.a c.place.result (omega arith) c.place.ensures c.args.most c.args.to.0 (omega arith) (omega arith)

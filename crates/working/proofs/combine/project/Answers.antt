@@ -1,23 +1,21 @@
 use Rattle.std.proofs.Common.{◌≡◌, ◌+◌, ◌*◌, ◌%◌, ◌^◌, ◌<◌, ◌≤◌, length, sym, ◌∙◌, subst, arith}
 use Rattle.std.proofs.lemmas.Nat.{one_shl, mul-le}
 use Rattle.subsets.specs.Projection.{words}
-use Rattle.working.proofs.WorkingLaws.{columns-few, stands-below, stands-start}
-use Rattle.working.proofs.ProjectLaws.{project-many, project-stands, stands-collapsed, stands-connected}
+use Rattle.working.proofs.WorkingLaws.{columns_few, stands_below, stands_start}
+use Rattle.working.proofs.ProjectLaws.{project_many, project_stands, stands_collapsed, stands_connected}
 use Rattle.working.proofs.combine.project.Goals as goal
 
 pub cut_scratch-a-requires : goal.cut_scratch-a-requires
 cut_scratch-a-requires c =
     let w : (1 * 2 ^ c.args.k) % 2 ^ 64 ≡ 2 ^ c.args.k = one_shl c.args.k 64 (omega arith) in
-    let (p, q) = columns-few c.args.k (omega arith) in
+    let (p, q) = columns_few c.args.k (omega arith) in
     (omega arith, omega arith, omega arith, omega arith, omega arith)
 
 pub cut_slot-set_rows-requires : goal.cut_slot-set_rows-requires
 cut_slot-set_rows-requires c =
     let w : (1 * 2 ^ c.args.k) % 2 ^ 64 ≡ 2 ^ c.args.k = one_shl c.args.k 64 (omega arith) in
-    let (p, q) = columns-few c.args.k (omega arith) in
+    let (p, q) = columns_few c.args.k (omega arith) in
     (rw w (omega arith), omega arith, omega arith)
-
-
 
 pub dead-dead_class-requires : goal.dead-dead_class-requires
 dead-dead_class-requires c =
@@ -26,8 +24,8 @@ dead-dead_class-requires c =
     record {
       wide = (w, omega arith);
       few = omega (arith, s.0);
-      connected = stands-connected c.args.k c.args.most _ w c.requires.part.0 c.args.m c.args.rows.now c.args.accept.now s;
-      collapsed = stands-collapsed c.args.k c.args.most _ w c.requires.part.0 c.args.m c.args.rows.now c.args.accept.now s;
+      connected = stands_connected c.args.k c.args.most _ w c.requires.part.0 c.args.m c.args.rows.now c.args.accept.now s;
+      collapsed = stands_collapsed c.args.k c.args.most _ w c.requires.part.0 c.args.m c.args.rows.now c.args.accept.now s;
     }
 
 pub subsets-requires : goal.subsets-requires
@@ -35,7 +33,7 @@ subsets-requires c =
     let w : (1 * 2 ^ c.args.k) % 2 ^ 64 ≡ 2 ^ c.args.k = one_shl c.args.k 64 (omega arith) in
     let s = c.requires.part.1 in
     let few : c.args.m ≤ c.args.most = s.0 in
-    let start = stands-start c.args.k c.args.most c.requires.part.0 c.args.rows.now c.args.accept.now c.args.m s in
+    let start = stands_start c.args.k c.args.most c.requires.part.0 c.args.rows.now c.args.accept.now c.args.m s in
     let short : words c.args.m ≤ c.args.most = omega arith in
     let l = mul-le (c.args.most + 1) (words c.args.m) (c.args.most + 1) c.args.most (omega arith) short in
     record {
@@ -46,10 +44,8 @@ subsets-requires c =
     }
 
 pub returns-in_err-count : goal.returns-in_err-count
-returns-in_err-count c = rw c.from_residual.ensures (λ a s. project-many c.args.k c.args.most _ (one_shl c.args.k 64 (omega arith)) a c.args.m c.args.rows.now c.args.accept.now s
+returns-in_err-count c = rw c.from_residual.ensures (λ a s. project_many c.args.k c.args.most _ (one_shl c.args.k 64 (omega arith)) a c.args.m c.args.rows.now c.args.accept.now s
     c.args.x.0 (omega arith) c.dead-dead_class.result c.dead-dead_class.ensures.live c.in_err-count.ensures)
-
-
 
 pub join_into-requires : goal.join_into-requires
 join_into-requires c =
@@ -60,21 +56,21 @@ join_into-requires c =
     let l = mul-le c.in_ok-count.count (2 ^ c.args.k) c.args.most (2 ^ c.args.k) few (omega arith) in
     let room : c.in_ok-count.count ≤ c.args.most + 10 = omega arith in
     let arrays = c.cut_scratch-a.ensures.arrays in
-    let cls : c.in_ok-count.count ≤ length c.beyond.new.completed = subst (λ z. c.in_ok-count.count ≤ z) (sym (c.beyond.auto.completed ∙ arrays.a-long)) room in
-    let firsts : c.in_ok-count.count ≤ length c.subsets.new.heads = subst (λ z. c.in_ok-count.count ≤ z) (sym (c.subsets.auto.heads ∙ (c.beyond.auto.heads0 ∙ arrays.b-long))) room in
-    let cur : c.in_ok-count.count ≤ length c.subsets.new.links = subst (λ z. c.in_ok-count.count ≤ z) (sym (c.subsets.auto.links ∙ (c.beyond.auto.links0 ∙ arrays.c-long))) room in
-    let lefts : c.in_ok-count.count ≤ length c.subsets.new.buckets = subst (λ z. c.in_ok-count.count ≤ z) (sym (c.subsets.auto.buckets ∙ (c.beyond.auto.heads1 ∙ arrays.d-long))) room in
-    let rights : c.in_ok-count.count ≤ length c.beyond.new.links1 = subst (λ z. c.in_ok-count.count ≤ z) (sym (c.beyond.auto.links1 ∙ arrays.e-long)) room in
+    let cls : c.in_ok-count.count ≤ length c.beyond.new.completed = subst (λ z. c.in_ok-count.count ≤ z) (sym (c.beyond.auto.completed ∙ arrays.a_long)) room in
+    let firsts : c.in_ok-count.count ≤ length c.subsets.new.heads = subst (λ z. c.in_ok-count.count ≤ z) (sym (c.subsets.auto.heads ∙ (c.beyond.auto.heads0 ∙ arrays.b_long))) room in
+    let cur : c.in_ok-count.count ≤ length c.subsets.new.links = subst (λ z. c.in_ok-count.count ≤ z) (sym (c.subsets.auto.links ∙ (c.beyond.auto.links0 ∙ arrays.c_long))) room in
+    let lefts : c.in_ok-count.count ≤ length c.subsets.new.buckets = subst (λ z. c.in_ok-count.count ≤ z) (sym (c.subsets.auto.buckets ∙ (c.beyond.auto.heads1 ∙ arrays.d_long))) room in
+    let rights : c.in_ok-count.count ≤ length c.beyond.new.links1 = subst (λ z. c.in_ok-count.count ≤ z) (sym (c.beyond.auto.links1 ∙ arrays.e_long)) room in
     record {
       table = (omega arith, w, p.explored.connected.start, omega arith);
-      room = (cls, firsts, cur, record { lefts-fit = lefts; rights-fit = rights; index-fits = omega arith });
+      room = (cls, firsts, cur, record { lefts_fit = lefts; rights_fit = rights; index_fits = omega arith });
       into = (rw w (omega arith), omega arith);
     }
 
 pub returns : goal.returns
 returns c a s =
     let j = c.join_into.ensures in
-    project-stands c.args.k c.args.most _ (one_shl c.args.k 64 (omega arith)) a c.args.m c.args.rows.now c.args.accept.now s
+    project_stands c.args.k c.args.most _ (one_shl c.args.k 64 (omega arith)) a c.args.m c.args.rows.now c.args.accept.now s
     c.args.x.0 (omega arith) c.dead-dead_class.result c.dead-dead_class.ensures.live
     c.beyond.new.completed c.beyond.ensures c.in_ok-count.count c.subsets.new.rows c.subsets.new.accept c.subsets.new.sets c.in_ok-count.ensures
     c.join_into.new.cls c.join_into.new.firsts c.join_into.result c.join_into.new.rows c.join_into.new.accept j.joined j.table j.few
