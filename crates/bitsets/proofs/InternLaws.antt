@@ -1,12 +1,12 @@
 -- Chains of the rows of each bucket: what a row that is filed changes, and where a walk along a chain ends.
-use Rattle.std.proofs.Common.{◌≡◌, ℕ, zero, suc, ◌+◌, ◌-◌, ◌*◌, ◌/◌, ◌%◌, ◌^◌, ◌<◌, ◌≤◌, Bool, true, false, cond, ◌&&◌, eqb, ltb, ◌≢◌, ◌⊎◌, List, [], ◌∷◌, length, get_or, set, sym, refl, ap, ◌∙◌, subst, inl, inr, arith}
+use Rattle.std.proofs.Common.{◌≡◌, ℕ, ◌+◌, ◌-◌, ◌*◌, ◌/◌, ◌%◌, ◌^◌, ◌<◌, ◌≤◌, ◌&&◌, eqb, ltb, List, length, get_or, set, sym, ap, ◌∙◌, subst, arith}
 use native.Mathlib.Decide.{ℕ_discrete, dec_lt}
 use lib.Bits.{bit_xor}
 use Rattle.std.proofs.lemmas.Nat.{xor_lt, div-add-mod'}
 use Rattle.std.proofs.lemmas.List.{get_or-set_same, get_or-set_other, length-set}
 use Rattle.std.proofs.lemmas.Bool.{cond-true, cond-false, lt-ltb, le-ltb, eq-eqb, ne_eqb, and_from, and_left, and_right}
-use Rattle.bitsets.specs.Bitrows.{row_at, member}
-use Rattle.bitsets.specs.Intern.{mixed, hashed, bucket_of, Last, first_of, Chains, Interned}
+use Rattle.bitsets.specs.Bitrows.{row_at}
+use Rattle.bitsets.specs.Intern.{bucket_of, Last, first_of, Chains, Interned}
 
 -- what a bucket's head says
 module _ (heads buckets : List ℕ) (n h : ℕ) where

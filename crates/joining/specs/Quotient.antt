@@ -1,6 +1,5 @@
 -- The table of the parts, written: each part leads where its first class leads, and accepts as that does.
-use Rattle.std.specs.Prelude.{◌≡◌, ℕ, ◌^◌, ◌<◌, ◌≤◌, List, slice_index}
-use Rattle.automata.specs.Joined.{Joined}
+use Rattle.std.specs.Prelude.{◌≡◌, ℕ, ◌^◌, ◌<◌, List, slice_index}
 use Rattle.tables.specs.Cells.{accepts, entry}
 
 pub record Quotient (k width : ℕ) (rows accept cls firsts : List ℕ) (n : ℕ) (rows' accept' : List ℕ) : Type 0 where

@@ -1,14 +1,13 @@
 -- The search over the states of a kind's machine: each step keeps it, and no more states are found than the machine has.
-use Rattle.std.proofs.Common.{◌≡◌, ℕ, suc, ◌+◌, ◌*◌, ◌^◌, ◌<◌, ◌≤◌, ◌⊎◌, List, length, get_or, set, sym, refl, ap, ◌∙◌, subst, inl, inr, add-one, arith}
+use Rattle.std.proofs.Common.{◌≡◌, ℕ, suc, ◌+◌, ◌*◌, ◌^◌, ◌<◌, ◌≤◌, List, length, get_or, set, sym, refl, ◌∙◌, subst, inl, inr, add-one, arith}
 use Rattle.std.proofs.lemmas.List.{get_or-set_same, get_or-set_other}
-use Rattle.words.specs.Words.{Word}
 use Rattle.claims.specs.Claims.{Holds}
 use Rattle.automata.specs.Machines.{Kind, within_kind, single_kind, next_kind, before_kind, claim, machine, moves}
 use Rattle.automata.specs.Search.{Explored}
 use Rattle.automata.proofs.Counting.{pigeon_below}
 use Rattle.automata.proofs.Machines.{leaf_below}
 use Rattle.automata.proofs.Residuals.{leaf}
-use Rattle.tables.specs.Cells.{entry, put_entry}
+use Rattle.tables.specs.Cells.{entry}
 use Rattle.tables.specs.Search.{Searching}
 use Rattle.tables.proofs.SearchLaws.{searching_start, searching_row, searching_old, searching_new, searching_end}
 use Rattle.leaves.specs.Explore.{Entered}

@@ -1,5 +1,5 @@
 -- From the table of a machine's states, joined, to the exact table of the claim, or that it does not fit.
-use Rattle.std.proofs.Common.{◌≡◌, ℕ, ◌^◌, ◌<◌, ◌≤◌, List, get_or, sym, subst}
+use Rattle.std.proofs.Common.{◌≡◌, ℕ, ◌^◌, ◌<◌, ◌≤◌, List, get_or, subst}
 use Rattle.claims.specs.Sizes.{Fits}
 use Rattle.automata.specs.Joined.{Joined}
 use Rattle.automata.specs.Machines.{Kind, claim, machine, moves}

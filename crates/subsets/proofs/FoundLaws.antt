@@ -1,5 +1,5 @@
 -- What each step of a subset construction keeps of the sets found so far.
-use Rattle.std.proofs.Common.{◌≡◌, ℕ, zero, suc, ◌+◌, ◌*◌, ◌^◌, ◌<◌, ◌≤◌, Bool, true, false, eqb, ◌⊎◌, List, length, get_or, Some, None, Option, sym, refl, ap, ◌∙◌, subst, inl, inr, arith, MatchOption}
+use Rattle.std.proofs.Common.{◌≡◌, ℕ, suc, ◌+◌, ◌*◌, ◌^◌, ◌<◌, ◌≤◌, true, false, eqb, List, length, get_or, Some, None, Option, sym, refl, ap, ◌∙◌, subst, inr, arith, MatchOption}
 use native.Mathlib.Decide.{ℕ_discrete}
 use Rattle.words.specs.Words.{bit}
 use Rattle.words.specs.Bits.{put_bit}

@@ -1,15 +1,12 @@
 -- The steps of a subset construction: the set that follows a set is the one that the definition says, a column with bit x leads where it leads without, and what each step of the search keeps.
-use Rattle.std.proofs.Common.{◌≡◌, ℕ, zero, suc, ◌+◌, ◌-◌, ◌*◌, ◌/◌, ◌%◌, ◌^◌, ◌<◌, ◌≤◌, Bool, true, false, cond, not, ◌&&◌, ◌||◌, eqb, ltb, ◌⊎◌, ◌↔◌, List, [], ◌∷◌, ◌++◌, length, get_or, set, Decides, sym, refl, ap, ◌∙◌, subst, ap₂, inl, inr, pow-suc, arith}
+use Rattle.std.proofs.Common.{◌≡◌, ℕ, zero, suc, ◌/◌, ◌%◌, ◌<◌, Bool, true, false, not, ◌&&◌, ◌||◌, eqb, ltb, ◌⊎◌, ◌↔◌, List, [], ◌∷◌, length, set, Decides, sym, refl, ap, ◌∙◌, subst, ap₂, inl, inr, arith}
 use mathlib.Core.Path.{fun_ext}
-use mathlib.Core.Bool.{false≢true}
-use native.Mathlib.Decide.{ℕ_discrete, dec_lt}
-use Rattle.std.proofs.lemmas.List.{get_or-set_same, get_or-set_other}
+use Rattle.std.proofs.lemmas.List.{get_or-set_same}
 use Rattle.std.proofs.lemmas.Bool.{lt-ltb, ne_eqb, eqb-false, not-true, not_from_false, or_cases, or_left, or_right, eqb-true as eqb_same}
 use Rattle.words.specs.Words.{Word, bit}
 use Rattle.words.specs.Bits.{put_bit}
-use Rattle.words.proofs.BitsLaws.{bit_put_here, bit_put_other, bit_ext, agree_put, put_bit_below}
+use Rattle.words.proofs.BitsLaws.{bit_put_here, bit_put_other, agree_put}
 use Rattle.automata.specs.Tables.{run}
-use Rattle.automata.specs.Search.{Exploring, Before}
 use Rattle.automata.specs.Subsets.{any, step_set, start_set, accepts_set}
 use Rattle.automata.proofs.Decisions.{and_true, eqb_true, bool_iff}
 use Rattle.automata.proofs.Subsets.{any_to, any_from}

@@ -1,5 +1,5 @@
 -- The order of words: shorter words first, words of one length by the first column that differs.
-use Rattle.std.specs.Prelude.{◌≡◌, ℕ, ◌<◌, ◌⊎◌, List, ◌∷◌, length}
+use Rattle.std.specs.Prelude.{◌≡◌, ℕ, ◌<◌, ◌⊎◌, ◌∷◌, length}
 use Rattle.words.specs.Words.{Word}
 
 pub data Less : Word → Word → Type 0 where

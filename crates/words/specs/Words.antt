@@ -1,5 +1,5 @@
 -- Words: for each place from 0 on one column, a number whose bits say which sets have the place.
-use Rattle.std.specs.Prelude.{ℕ, zero, suc, ◌/◌, ◌%◌, ◌^◌, ◌<◌, Bool, true, false, List, [], ◌∷◌, ◌==◌}
+use Rattle.std.specs.Prelude.{ℕ, zero, suc, ◌/◌, ◌%◌, ◌^◌, ◌<◌, Bool, false, List, [], ◌∷◌, ◌==◌}
 
 -- a family of sets of places: whether set x has place i
 abbrev pub Sets : Type 0

@@ -1,4 +1,4 @@
-use Rattle.std.proofs.Common.{◌≡◌, ℕ, ◌*◌, ◌<◌, true, false, length, refl, inl, inr, arith}
+use Rattle.std.proofs.Common.{◌≡◌, true, length, refl, inl, inr, arith}
 use mathlib.Core.Bool.{false≢true}
 use Rattle.tables.specs.Cells.{accepts}
 use Rattle.bitsets.specs.Bitrows.{has}

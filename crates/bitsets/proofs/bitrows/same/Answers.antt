@@ -1,4 +1,4 @@
-use Rattle.std.proofs.Common.{◌≡◌, get_or, refl, ap, arith}
+use Rattle.std.proofs.Common.{get_or, refl, ap, arith}
 use mathlib.Core.Bool.{false≢true}
 use Rattle.std.proofs.lemmas.List.{ext_get_or}
 use Rattle.bitsets.proofs.bitrows.same.Goals as goal

@@ -1,4 +1,4 @@
-use Rattle.std.proofs.Common.{◌≡◌, sym, ◌∙◌}
+use Rattle.std.proofs.Common.{sym, ◌∙◌}
 use Rattle.bitsets.proofs.BitrowsLaws.{row_part}
 use Rattle.bitsets.proofs.bitrows.same_rows.Goals as goal
 

@@ -1,4 +1,4 @@
-use Rattle.std.proofs.Common.{◌≡◌, ℕ, ◌+◌, set, sym, refl, subst}
+use Rattle.std.proofs.Common.{ℕ, ◌+◌, set, sym, refl, subst}
 use Rattle.bitsets.specs.Intern.{Chains}
 use Rattle.bitsets.proofs.InternLaws.{chains_more}
 use Rattle.bitsets.proofs.intern.file.Goals as goal

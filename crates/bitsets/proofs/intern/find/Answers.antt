@@ -1,7 +1,7 @@
-use Rattle.std.proofs.Common.{◌≡◌, ℕ, ◌-◌, true, false, sym, ◌∙◌, arith, rules}
+use Rattle.std.proofs.Common.{◌-◌, arith, rules}
 use mathlib.Core.Bool.{false≢true}
 use Rattle.tables.proofs.CellsLaws.{row_fits}
-use Rattle.bitsets.proofs.InternLaws.{Walk, walk_start, walk_falls, walk_next}
+use Rattle.bitsets.proofs.InternLaws.{walk_start, walk_falls, walk_next}
 use Rattle.bitsets.proofs.intern.find.Goals as goal
 
 pub loop-next-init : goal.loop-next-init

@@ -1,6 +1,5 @@
-use Rattle.std.proofs.Common.{◌≡◌, ℕ, ◌+◌, ◌*◌, ◌<◌, ◌≤◌, length, ap, ◌∙◌, arith}
+use Rattle.std.proofs.Common.{length, ap, ◌∙◌, arith}
 use Rattle.tables.proofs.CellsLaws.{row_fits}
-use Rattle.bitsets.specs.Bitrows.{row_at}
 use Rattle.bitsets.specs.Intern.{bucket_of}
 use Rattle.bitsets.proofs.BitrowsLaws.{row_part, row_ext}
 use Rattle.bitsets.proofs.InternLaws.{interned_more}

@@ -1,4 +1,4 @@
-use Rattle.std.proofs.Common.{◌≡◌, ℕ, ◌^◌, ◌<◌, get_or, sym, arith}
+use Rattle.std.proofs.Common.{get_or, sym, arith}
 use Rattle.std.proofs.lemmas.Nat.{one_shl}
 use Rattle.tables.specs.Cells.{accepts, entry}
 use Rattle.joining.proofs.PartsLaws.{parts_few}

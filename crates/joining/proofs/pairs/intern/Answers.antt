@@ -1,4 +1,3 @@
-use Rattle.std.proofs.Common.{arith}
 use Rattle.joining.proofs.PairsLaws.{interned_old, interned_new}
 use Rattle.joining.proofs.pairs.intern.Goals as goal
 

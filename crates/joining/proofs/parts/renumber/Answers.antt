@@ -1,4 +1,4 @@
-use Rattle.std.proofs.Common.{◌≡◌, get_or, ap, arith}
+use Rattle.std.proofs.Common.{get_or, ap, arith}
 use Rattle.joining.proofs.NumberingLaws.{numbering_none, numbering_known, numbering_new, numbering_end}
 use Rattle.joining.proofs.parts.renumber.Goals as goal
 use Rattle.joining.proofs.parts.renumber.Goals.{then-i-count, else-i-count}

@@ -1,5 +1,3 @@
-use Rattle.std.proofs.Common.{◌≡◌, ℕ, ◌^◌, ◌<◌, get_or}
-use Rattle.tables.specs.Cells.{entry, accepts}
 use Rattle.joining.specs.Quotient.{Quotient}
 use Rattle.joining.proofs.quotient.quotient.Given as goal
 

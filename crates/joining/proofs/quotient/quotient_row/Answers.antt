@@ -1,4 +1,4 @@
-use Rattle.std.proofs.Common.{◌≡◌, ℕ, ◌<◌, get_or, ap, arith}
+use Rattle.std.proofs.Common.{ℕ, ◌<◌, get_or, ap, arith}
 use Rattle.std.proofs.lemmas.Nat.{one_shl}
 use Rattle.tables.specs.Cells.{entry}
 use Rattle.joining.proofs.QuotientLaws.{row_more, row_kept}

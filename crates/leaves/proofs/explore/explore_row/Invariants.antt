@@ -1,4 +1,4 @@
-use Rattle.std.proofs.Common.{◌≡◌, ◌-◌, ◌^◌, ◌<◌, ◌≤◌}
+use Rattle.std.proofs.Common.{◌≡◌, ◌-◌, ◌^◌, ◌≤◌}
 use Rattle.leaves.specs.Kind.{said}
 use Rattle.leaves.proofs.ExploreLaws.{Far}
 use Rattle.leaves.proofs.explore.explore_row.Given as goal

@@ -1,6 +1,5 @@
-use Rattle.std.proofs.Common.{◌≡◌, ℕ, ◌*◌, ◌%◌, ◌^◌, ◌<◌, ◌≤◌, length, sym, subst, arith}
+use Rattle.std.proofs.Common.{◌≡◌, ◌*◌, ◌%◌, ◌^◌, arith}
 use Rattle.std.proofs.lemmas.Nat.{one_shl, mul-le}
-use Rattle.tables.specs.Cells.{entry}
 use Rattle.leaves.specs.Kind.{said}
 use Rattle.leaves.proofs.LeafLaws.{leaf_worked, leaf_many}
 use Rattle.leaves.proofs.leaf.leaf.Goals as goal

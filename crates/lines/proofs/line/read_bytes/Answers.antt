@@ -1,5 +1,5 @@
-use Rattle.std.proofs.Common.{◌≡◌, ℕ, ◌-◌, ◌%◌, ◌<◌, ◌≤◌, ◌⊎◌, List, [], ◌∷◌, ◌++◌, length, get_or, take, drop, vec_items, sym, refl, ap, ◌∙◌, subst, inl, inr, append_assoc, append-nil, arith, rules}
-use Rattle.lines.specs.Line.{Pair, Pairs, Field}
+use Rattle.std.proofs.Common.{◌≡◌, ◌≤◌, [], ◌∷◌, ◌++◌, length, get_or, vec_items, sym, refl, ap, ◌∙◌, subst, inl, inr, append_assoc, append-nil, arith, rules}
+use Rattle.lines.specs.Line.{Pairs}
 use Rattle.lines.proofs.LineLaws.{pairs_even, pairs_step, pairs_end}
 use Rattle.lines.proofs.line.read_bytes.Goals as goal
 use Rattle.lines.proofs.line.read_bytes.Goals.{else-field-eq1-via-then-field-eq1+else-field-eq45, else-field-eq1-via-else-field-eq1}

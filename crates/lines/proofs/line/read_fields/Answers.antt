@@ -1,4 +1,4 @@
-use Rattle.std.proofs.Common.{◌≡◌, ℕ, List, ◌∷◌, ◌++◌, length, sym, subst, rules}
+use Rattle.std.proofs.Common.{◌≡◌, ◌∷◌, ◌++◌, subst, rules}
 use Rattle.lines.specs.Line.{NoSpace}
 use Rattle.lines.proofs.LineLaws.{unfit_empty, unfit_no_space, unfit_second, unfit_fourth}
 use Rattle.lines.proofs.line.read_fields.Goals as goal

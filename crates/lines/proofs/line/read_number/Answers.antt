@@ -1,4 +1,4 @@
-use Rattle.std.proofs.Common.{◌≡◌, ℕ, ◌+◌, ◌-◌, ◌*◌, ◌<◌, ◌≤◌, length, get_or, take, drop, sym, subst, arith, rules}
+use Rattle.std.proofs.Common.{◌≡◌, ◌+◌, ◌-◌, ◌*◌, ◌≤◌, length, get_or, take, drop, sym, subst, arith, rules}
 use Rattle.lines.specs.Line.{Decimal}
 use Rattle.lines.proofs.LineLaws.{grows, decimal_step, decimal_end}
 use Rattle.lines.proofs.line.read_number.Goals as goal

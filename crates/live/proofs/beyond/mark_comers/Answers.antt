@@ -1,4 +1,3 @@
-use Rattle.std.proofs.Common.{arith}
 use Rattle.live.specs.Beyond.{by_column}
 use Rattle.live.proofs.BeyondLaws.{link_falls, walked_start, walked_more, walked_end}
 use Rattle.live.proofs.beyond.mark_comers.Goals as goal

@@ -1,4 +1,4 @@
-use Rattle.std.proofs.Common.{◌≡◌, sym, subst, arith}
+use Rattle.std.proofs.Common.{sym, subst, arith}
 use Rattle.tables.specs.Cells.{entry}
 use Rattle.bitsets.specs.Bitrows.{Below}
 use Rattle.bitsets.proofs.InternLaws.{interned_start}

@@ -1,4 +1,4 @@
-use Rattle.std.proofs.Common.{◌≡◌, ℕ, ◌-◌, true, length, sym, ap, ◌∙◌, inl, inr, arith, length-take}
+use Rattle.std.proofs.Common.{◌-◌, sym, ap, ◌∙◌, inl, inr, arith, length-take}
 use mathlib.Core.Bool.{false≢true}
 use borrow.Rule.Slice.PartMut.{post_of}
 use Rattle.bitsets.specs.Bitrows.{has}

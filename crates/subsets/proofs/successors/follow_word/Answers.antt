@@ -1,4 +1,4 @@
-use Rattle.std.proofs.Common.{◌≡◌, ℕ, ◌+◌, ◌/◌, List, sym, subst, arith, rules}
+use Rattle.std.proofs.Common.{ℕ, ◌+◌, ◌/◌, List, sym, subst, arith, rules}
 use Rattle.tables.specs.Cells.{entry}
 use Rattle.bitsets.specs.Bitrows.{has}
 use Rattle.live.specs.Dead.{lives}

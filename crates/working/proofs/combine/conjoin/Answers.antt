@@ -1,6 +1,6 @@
-use Rattle.std.proofs.Common.{◌≡◌, ◌+◌, ◌*◌, ◌%◌, ◌^◌, ◌<◌, ◌≤◌, sym, subst, arith}
+use Rattle.std.proofs.Common.{◌≡◌, ◌+◌, ◌*◌, ◌%◌, ◌^◌, ◌≤◌, sym, arith}
 use Rattle.std.proofs.lemmas.Nat.{one_shl, mul-le}
-use Rattle.working.proofs.WorkingLaws.{columns_few, stands_below, stands_start}
+use Rattle.working.proofs.WorkingLaws.{columns_few, stands_start}
 use Rattle.working.proofs.CombineLaws.{conjoin_many, conjoin_stands}
 use Rattle.working.proofs.combine.conjoin.Goals as goal
 

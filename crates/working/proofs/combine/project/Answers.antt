@@ -1,7 +1,7 @@
-use Rattle.std.proofs.Common.{◌≡◌, ◌+◌, ◌*◌, ◌%◌, ◌^◌, ◌<◌, ◌≤◌, length, sym, ◌∙◌, subst, arith}
+use Rattle.std.proofs.Common.{◌≡◌, ◌+◌, ◌*◌, ◌%◌, ◌^◌, ◌≤◌, length, sym, ◌∙◌, subst, arith}
 use Rattle.std.proofs.lemmas.Nat.{one_shl, mul-le}
 use Rattle.subsets.specs.Projection.{words}
-use Rattle.working.proofs.WorkingLaws.{columns_few, stands_below, stands_start}
+use Rattle.working.proofs.WorkingLaws.{columns_few, stands_start}
 use Rattle.working.proofs.ProjectLaws.{project_many, project_stands, stands_collapsed, stands_connected}
 use Rattle.working.proofs.combine.project.Goals as goal
 
