@@ -1,8 +1,8 @@
 //! Links the proved library `export`, and has it proved and built first where that is due.
 //!
-//! `rt staticlib export`, run in the repository's root, proves the library and everything below it and writes
-//! `target/staticlib/libexport.a`. It is run only if that file is missing or older than a source of one of these
-//! crates. After a finished `rt check` or `rt ci` it takes seconds, from nothing some minutes.
+//! `rt lib`, run in the crate's folder, proves the library and everything below it and writes `crates/export/out/libexport.a`.
+//! It is run only if that file is missing or older than a source of one of these crates. Where an earlier check has proved
+//! the same crates it takes seconds, from nothing some minutes.
 
 use std::fs;
 use std::path::{Path, PathBuf};
@@ -13,7 +13,7 @@ const LIBRARY: &str = "export";
 
 fn main() {
     let root = Path::new(env!("CARGO_MANIFEST_DIR")).join("..");
-    let archive = root.join(format!("target/staticlib/lib{LIBRARY}.a"));
+    let archive = root.join(format!("crates/{LIBRARY}/out/lib{LIBRARY}.a"));
     let folders = source_folders(&root);
     for folder in &folders {
         println!("cargo::rerun-if-changed={}", folder.display());
@@ -30,7 +30,8 @@ fn main() {
     println!("cargo::rustc-link-lib=static={LIBRARY}");
 }
 
-/// The folders of the library's crate and of all below it, by crates.txt: a line `name: used used ...` for each crate.
+/// The folders of the library's crate and of all below it, by crates.txt: a line `name: used used ...` for each crate,
+/// with `staticlib` behind the name of a static library.
 fn source_folders(root: &Path) -> Vec<PathBuf> {
     let list = root.join("crates.txt");
     println!("cargo::rerun-if-changed={}", list.display());
@@ -40,7 +41,8 @@ fn source_folders(root: &Path) -> Vec<PathBuf> {
     while done < names.len() {
         let used = text
             .lines()
-            .find_map(|line| line.strip_prefix(names[done])?.strip_prefix(':'))
+            .filter_map(|line| line.split_once(':'))
+            .find_map(|(head, used)| (head.split_whitespace().next() == Some(names[done])).then_some(used))
             .expect("crates.txt has a line for each crate");
         for name in used.split_whitespace() {
             if !names.contains(&name) {
@@ -78,15 +80,16 @@ fn is_due(archive: &Path, newest: Option<SystemTime>) -> bool {
 }
 
 fn build(root: &Path) {
-    let result = Command::new("rt").args(["staticlib", LIBRARY]).current_dir(root).output();
-    match result {
+    let folder = root.join("crates").join(LIBRARY);
+    match Command::new("rt").arg("lib").current_dir(&folder).output() {
         Ok(output) if output.status.success() => {}
         Ok(output) => panic!(
-            "`rt staticlib {LIBRARY}` failed: {}\n{}{}",
+            "`rt lib` in {} failed: {}\n{}{}",
+            folder.display(),
             output.status,
             String::from_utf8_lossy(&output.stdout),
             String::from_utf8_lossy(&output.stderr),
         ),
-        Err(error) => panic!("`rt staticlib {LIBRARY}` cannot be run: {error}. The host needs the Rattle kit."),
+        Err(error) => panic!("`rt lib` cannot be run: {error}. The host needs the Rattle kit."),
     }
 }
