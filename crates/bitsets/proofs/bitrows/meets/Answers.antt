@@ -5,9 +5,6 @@ use Rattle.bitsets.specs.Bitrows.{has}
 use Rattle.bitsets.proofs.BitrowsLaws.{word_bits, word_here, word_split, some_below_none, has_below}
 use Rattle.bitsets.proofs.bitrows.meets.Goals as goal
 
-pub loop-z-init : goal.loop-z-init
-loop-z-init c s = some_below_none _ (has c.args.row.now) s
-
 pub meets_word-requires : goal.meets_word-requires
 meets_word-requires c = record { inside = word_bits c.args.row.now c.loop-z.z (omega arith) (length c.args.accept.now) c.requires.inside; small = omega arith }
 

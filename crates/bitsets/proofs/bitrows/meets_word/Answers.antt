@@ -7,20 +7,8 @@ use Rattle.bitsets.proofs.BitrowsLaws.{some_bit_now, some_bit_later, some_bit_sp
 use Rattle.bitsets.proofs.bitrows.meets_word.Goals as goal
 use Rattle.bitsets.proofs.bitrows.meets_word.Goals.{else-left-eq1-via-then-left-eq1+else-accept-q-eq1, else-left-eq1-via-else-left-eq1}
 
-pub loop-left-init : goal.loop-left-init
-loop-left-init c = (c.requires.inside, omega arith, (λ s. s, λ s. s))
-
-pub offset_bounds-accept-q : goal.offset_bounds-accept-q
-offset_bounds-accept-q c = let h = bits_below_now (length c.args.accept.now) c.loop-left.q c.loop-left.left c.loop-left.invariant.0 c.if-left-eq1.true in search rules
-
 pub bounds-accept-q : goal.bounds-accept-q
 bounds-accept-q c = let h = bits_below_now (length c.args.accept.now) c.loop-left.q c.loop-left.left c.loop-left.invariant.0 c.if-left-eq1.true in omega arith
-
-pub returns-then-accept-q-eq1 : goal.returns-then-accept-q-eq1
-returns-then-accept-q-eq1 c = (λ _. c.loop-left.invariant.2.0 (some_bit_now (λ q. accepts c.args.accept.now q ≡ true) c.loop-left.q c.loop-left.left c.if-left-eq1.true (eq-eqb _ 1 c.if-accept-q-eq1.true)), λ _. refl)
-
-pub overflow_add-q : goal.overflow_add-q
-overflow_add-q c = search rules
 
 -- the bit at hand is not set, or its class does not accept: what is said is said by the others
 passed : (c : goal.Joined-else-left-eq1) → SomeBit (λ q. accepts c.args.accept.now q ≡ true) c.loop-left.q c.loop-left.left → SomeBit (λ q. accepts c.args.accept.now q ≡ true) (c.loop-left.q + 1) (c.loop-left.left / 2)

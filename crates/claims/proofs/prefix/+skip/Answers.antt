@@ -29,14 +29,6 @@ returns-in_err-more-in-And t c =
     let e : 5 ∷ c.in_ok-sign.rest.now ≡ c.args.bytes.now = sign_is _ _ _ _ c.in_ok-sign.ensures c.in-And.is in
     rw c.from_residual-in_err-more-in-And.ensures (no_first c.args.k c.in_ok-sign.rest.now c.args.bytes.now e c.in_err-more-in-And.ensures)
 
-pub skip-requires-in-And-2 : goal.skip-requires-in-And-2
-skip-requires-in-And-2 t c =
-    let e : 5 ∷ c.in_ok-sign.rest.now ≡ c.args.bytes.now = sign_is _ _ _ _ c.in_ok-sign.ensures c.in-And.is in
-    let l = ap length e in
-    let f = c.in_ok-more-in-And.ensures in
-    let a = shorter c.args.k f.0 c.in_ok-sign.rest.now c.in_ok-more-in-And.more.now f.1 in
-    search rules
-
 pub returns-then-x-k : goal.returns-then-x-k
 returns-then-x-k t c = (single c.in-Single.x.0, record { rows = sign_is _ _ _ _ c.in_ok-sign.ensures c.in-Single.is; fine = lt→ltb _ _ c.if-x-k.true })
 

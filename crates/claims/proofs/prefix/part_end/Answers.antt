@@ -16,12 +16,6 @@ behind s p r a h e =
 pub returns-then-at-bytes : goal.returns-then-at-bytes
 returns-then-at-bytes c d t f = omega (arith, shorter c.args.k d _ t f, length-drop c.args.at c.args.bytes.now)
 
-pub overflow_sub-result : goal.overflow_sub-result
-overflow_sub-result c =
-    let (d, f) = c.in-Some.ensures in
-    let s = c.args.bytes.now in
-    (behind s (row d) c.in-Some.rest.now c.args.at (omega arith) (f.rows ∙ take_rest s c.args.at)).0
-
 pub returns-in-Some : goal.returns-in-Some
 returns-in-Some c =
     let (d, f) = c.in-Some.ensures in
@@ -29,6 +23,3 @@ returns-in-Some c =
     let e = f.rows ∙ take_rest s c.args.at in
     let q = behind s (row d) c.in-Some.rest.now c.args.at (omega arith) e in
     (omega arith, (d, record { rows = ap (λ z. row d ++ z) q.1 ∙ e; fine = f.fine }))
-
-pub returns-in-None : goal.returns-in-None
-returns-in-None c = subst (NoFront c.args.k) (take_rest c.args.bytes.now c.args.at) c.in-None.ensures

@@ -9,9 +9,6 @@ loop-i-init c =
     let t = c.args.t in
     (omega arith, seeking_start c.args.k t.classes (entry t.rows.now t.width) c.args.queue.now c.args.number.now c.args.prev.now c.args.via.now c.requires.table.1.1.0 c.requires.room)
 
-pub overflow_add-i : goal.overflow_add-i
-overflow_add-i c = omega (arith, c.loop-i.invariant.1.few)
-
 pub returns : goal.returns
 returns c =
     let t = c.args.t in

@@ -4,9 +4,6 @@ use Rattle.firsts.specs.Spell.{Falls}
 use Rattle.firsts.proofs.SpellLaws.{word_above, length_step, write_start, write_step, write_end}
 use Rattle.firsts.proofs.spell.write_word.Goals as goal
 
-pub loop-left-init : goal.loop-left-init
-loop-left-init c = (omega arith, c.requires.exact, omega arith, write_start c.args.prev.now c.args.via.now c.args.out.now c.args.j)
-
 pub loop-left-preserved : goal.loop-left-preserved
 loop-left-preserved c =
     let (h, long, room, same) = c.loop-left.invariant in
@@ -21,8 +18,3 @@ loop-left-preserved c =
     let shorter = length_step prev via i above falls in
     let kept = length-set out (n - 1) (get_or via i 0) in
     (omega arith, omega arith, omega arith, write_step prev via out i n (n - 1) (omega arith) room long falls ∙ same)
-
-pub returns : goal.returns
-returns c =
-    let (h, long, room, same) = c.loop-left.invariant in
-    sym (write_end c.args.prev.now c.args.via.now c.loop-left.out c.loop-left.at c.loop-left.left (omega arith) long) ∙ same

@@ -3,9 +3,6 @@ use Rattle.tables.specs.Cells.{entry, accepts}
 use Rattle.live.proofs.BeyondLaws.{marking_end}
 use Rattle.live.proofs.beyond.beyond.Goals as goal
 
-pub overflow_add-i : goal.overflow_add-i
-overflow_add-i c = omega arith
-
 pub returns : goal.returns
 returns c =
     let t = c.args.t in

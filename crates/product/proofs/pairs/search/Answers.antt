@@ -7,8 +7,5 @@ loop-i-init c =
     let n = c.note_pair.ensures in
     (omega arith, pairing_start (omega arith) n.numbered n.noted)
 
-pub overflow_add-i : goal.overflow_add-i
-overflow_add-i c = omega (arith, c.args.f.now.small.1, c.loop-i.invariant.1.few, c.loop-i-test.true)
-
 pub returns : goal.returns
 returns c = pairing_end c.loop-i.invariant.1 (omega (arith, c.loop-i.invariant.0, c.loop-i-test.false))

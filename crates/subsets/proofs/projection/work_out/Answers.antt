@@ -7,15 +7,6 @@ next_set-requires c =
     let y = c.requires.ready in
     record { posed = y.posed; inside = set_below y c.args.i y.row; place = (y.row, set_fits y, y.column); without = c.requires.without }
 
-pub intern-requires : goal.intern-requires
-intern-requires c =
-    let y = c.requires.ready in
-    let h = set_fits y in
-    record {
-      interned = new_interned y c.next_set.new.sets c.next_set.ensures.made c.next_set.ensures.kept;
-      room = (omega arith, y.room.heads_fit, omega (arith, y.room.links_fit, y.found.few), omega (arith, y.room.buckets_fit, y.found.few), omega (arith, y.posed.small, y.found.few));
-    }
-
 pub returns-then-n-p : goal.returns-then-n-p
 returns-then-n-p c = found_many c.requires.ready c.next_set.new.sets c.next_set.ensures.made c.next_set.ensures.kept c.args.rows.now c.in-None.ensures c.if-n-p.true
 

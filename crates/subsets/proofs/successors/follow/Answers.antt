@@ -14,12 +14,6 @@ loop-z-init c =
     let l = part_length c.args.sets.now c.args.w c.args.to c.requires.room.0 in
     followed_start _ c.args.w c.args.i c.args.to c.args.sets.now c.clear.new.row c.requires.room.0 (omega arith) c.clear.ensures
 
-pub offset_bounds-sets-i : goal.offset_bounds-sets-i
-offset_bounds-sets-i c = let f = row_fits c.args.i c.args.to c.args.w c.requires.order in search rules
-
-pub bounds-sets-i : goal.bounds-sets-i
-bounds-sets-i c = let f = row_fits c.args.i c.args.to c.args.w c.requires.order in omega arith
-
 pub follow_word-requires : goal.follow_word-requires
 follow_word-requires c =
     let s = c.args.sets.now in
