@@ -1,6 +1,5 @@
 // Sets of classes as rows of bits, 32 classes to a word. A row is a slice of words, so that rows one behind the other are parts of one slice.
 ghost use Rattle.std.specs.Prelude.{◌≡◌, ℕ, ◌+◌, ◌*◌, ◌^◌, ◌<◌, ◌≤◌, true, false, length, Decides};
-ghost use Rattle.words.specs.Words.{bit};
 ghost use Rattle.tables.specs.Cells.{accepts};
 ghost use Rattle.bitsets.specs.Bitrows.{has, row_at, Adds, SomeBit, BitsBelow, Below, Meets};
 
@@ -24,25 +23,12 @@ pub fn insert(row: &mut [u32], q: usize)
     row[q / 32] = word;
 }
 
-// Whether two slices of one length are the same.
-fn same(u: &[u32], v: &[u32]) -> bool
-    requires { length u.now ≡ length v.now }
-    ensures { Decides result (u.now ≡ v.now) }
-{
-    for z in 0..u.len() {
-        if u[z] != v[z] {
-            return false;
-        }
-    }
-    true
-}
-
 // Whether row i and row j are the same.
 pub fn same_rows(sets: &[u32], w: usize, i: usize, j: usize) -> bool
     requires { (i * w + w ≤ length sets.now) × (j * w + w ≤ length sets.now) }
     ensures { Decides result (row_at sets.now w i ≡ row_at sets.now w j) }
 {
-    same(&sets[i * w..i * w + w], &sets[j * w..j * w + w])
+    sets[i * w..i * w + w] == sets[j * w..j * w + w]
 }
 
 // Whether one of the classes from + y accepts, y the bits of a word: shifts the word down until no bit is left.

@@ -2,8 +2,8 @@
 // before row i that is in row i's bucket, or 0 where there is none. Nothing is cleared before use: heads[h] counts only if it is one of the rows and that row is in bucket h.
 // Which hash is taken changes no promise: equal rows are in one bucket whatever it is.
 ghost use Rattle.std.specs.Prelude.{◌≡◌, ℕ, ◌+◌, ◌*◌, ◌%◌, ◌^◌, ◌<◌, ◌≤◌, length, MatchOption, ◌≢◌, slice_set};
-ghost use Rattle.bitsets.specs.Bitrows.{row_at, member};
-ghost use Rattle.bitsets.specs.Intern.{mixed, hashed, bucket_of, first_of, Chains, Interned, Fresh, Again};
+ghost use Rattle.bitsets.specs.Bitrows.{row_at};
+ghost use Rattle.bitsets.specs.Intern.{mixed, bucket_of, first_of, Chains, Interned, Fresh, Again};
 
 use crate::bitrows::same_rows;
 

@@ -1,6 +1,7 @@
 // The first class found that accepts, or the first that does not.
 ghost use Rattle.std.specs.Prelude.{ℕ, ◌<◌, ◌≤◌, length, MatchOption, slice_index};
 ghost use Rattle.tables.specs.Cells.{accepts};
+ghost use Rattle.tables.specs.View.{accepting};
 ghost use Rattle.firsts.specs.First.{Foremost, Nowhere};
 
 use tables::cells::{Class, Table};
@@ -9,7 +10,7 @@ use tables::cells::{Class, Table};
 pub fn first(t: Table, queue: &[u32], found: usize, wanted: bool) -> Option<usize>
     requires room { found ≤ length queue.now }
     requires below { (j : ℕ) → j < found → slice_index queue.now j < t.classes }
-    ensures { MatchOption result (Nowhere (λ j. accepts t.entry.accept.now (slice_index queue.now j)) found wanted) (Foremost (λ j. accepts t.entry.accept.now (slice_index queue.now j)) found wanted) }
+    ensures { MatchOption result (Nowhere (λ j. accepting t.entry (slice_index queue.now j)) found wanted) (Foremost (λ j. accepting t.entry (slice_index queue.now j)) found wanted) }
 {
     for j in 0..found {
         if t.accepts(Class(queue[j])) == wanted {

@@ -4,6 +4,7 @@
 // `number` has the number of each class that was found, and anything for the others: class q was found exactly if its number is below the count and `queue` has q there. So no memory is cleared before a search.
 ghost use Rattle.std.specs.Prelude.{◌≡◌, ◌+◌, ◌^◌, ◌<◌, ◌≤◌, true, false, length, slice_set};
 ghost use Rattle.tables.specs.Cells.{entry};
+ghost use Rattle.tables.specs.View.{moves};
 ghost use Rattle.firsts.specs.Search.{Room, Among, Numbered, Seeking, Searched};
 
 use tables::cells::{Class, Table};
@@ -58,9 +59,9 @@ fn follow(
     requires table { (t.width ≡ 2 ^ k) × (t.classes < 2 ^ 32) }
     requires room { Room t.classes queue.old number.old prev.old via.old }
     requires here { (i < found) × (a < t.width) }
-    requires so_far { Seeking k t.classes (entry t.rows.now t.width) found queue.old number.old prev.old via.old i a }
+    requires so_far { Seeking k t.classes (moves t) found queue.old number.old prev.old via.old i a }
     ensures more { found ≤ result }
-    ensures so_far { Seeking k t.entry.classes (entry t.entry.rows.now t.entry.width) result queue.new number.new prev.new via.new i (a + 1) }
+    ensures so_far { Seeking k t.entry.classes (moves t.entry) result queue.new number.new prev.new via.new i (a + 1) }
 {
     let q = t.next(Class(queue[i]), a);
     if known(queue, number, found, q) {
@@ -84,9 +85,9 @@ fn follow_all(
     requires table { (t.width ≡ 2 ^ k) × ((k ≤ 12) × (t.classes < 2 ^ 32)) }
     requires room { Room t.classes queue.old number.old prev.old via.old }
     requires here { i < found }
-    requires so_far { Seeking k t.classes (entry t.rows.now t.width) found queue.old number.old prev.old via.old i 0 }
+    requires so_far { Seeking k t.classes (moves t) found queue.old number.old prev.old via.old i 0 }
     ensures more { found ≤ result }
-    ensures so_far { Seeking k t.entry.classes (entry t.entry.rows.now t.entry.width) result queue.new number.new prev.new via.new (i + 1) 0 }
+    ensures so_far { Seeking k t.entry.classes (moves t.entry) result queue.new number.new prev.new via.new (i + 1) 0 }
 {
     let mut count = found;
     for a in 0..1u32 << k {
@@ -106,7 +107,7 @@ pub fn search(
 ) -> usize
     requires table { (t.width ≡ 2 ^ k) × ((k ≤ 12) × ((0 < t.classes) × (t.classes < 2 ^ 32))) }
     requires room { Room t.classes queue.old number.old prev.old via.old }
-    ensures { Searched k t.entry.classes (entry t.entry.rows.now t.entry.width) result queue.new prev.new via.new }
+    ensures { Searched k t.entry.classes (moves t.entry) result queue.new prev.new via.new }
 {
     queue[0] = 0;
     number[0] = 0;

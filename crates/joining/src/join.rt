@@ -4,9 +4,10 @@
 // A round splits `cls` by every column, one after the other, into `cur`: after the columns before j, classes are together in cur exactly if they are together in cls and each of these columns leads them into one part of cls.
 // Never does a round part classes that are alike, since what a column makes of them is alike too. A round that has made no part more has changed nothing: then every column leads each part into one part, and so classes of one part are alike.
 // Every other round has made a part more, so there are at most as many rounds as classes, and each takes as many steps as the table has entries: no two classes are ever compared.
-ghost use Rattle.std.specs.Prelude.{◌≡◌, ℕ, ◌*◌, ◌^◌, ◌<◌, ◌≤◌, length, slice_index};
+ghost use Rattle.std.specs.Prelude.{◌≡◌, ◌*◌, ◌^◌, ◌<◌, ◌≤◌, length, slice_index};
 ghost use Rattle.automata.specs.Joined.{Joined};
-ghost use Rattle.tables.specs.Cells.{accepts, entry};
+ghost use Rattle.tables.specs.Cells.{entry};
+ghost use Rattle.tables.specs.View.{moves, accepting};
 ghost use Rattle.joining.specs.Join.{Joining};
 ghost use Rattle.joining.specs.Pairs.{Room};
 ghost use Rattle.joining.specs.Parts.{Partition};
@@ -32,7 +33,7 @@ pub fn join(
 ) -> usize
     requires table { (k ≤ 12) × (t.width ≡ 2 ^ k) × (0 < t.classes) × (t.classes < 2 ^ 32) }
     requires room { (t.classes ≤ length cls.old) × (t.classes ≤ length firsts.old) × (t.classes ≤ length cur.old) × Room t.classes lefts.old rights.old index.old }
-    ensures joined { Joined k t.entry.classes (entry t.entry.rows.now t.entry.width) (accepts t.entry.accept.now) (λ q. slice_index cls.new q) (λ i. slice_index firsts.new i) result }
+    ensures joined { Joined k t.entry.classes (moves t.entry) (accepting t.entry) (λ q. slice_index cls.new q) (λ i. slice_index firsts.new i) result }
     ensures parts { Partition t.entry.classes (λ q. slice_index cls.new q) (λ i. slice_index firsts.new i) result }
     ensures few { result ≤ t.entry.classes }
 {

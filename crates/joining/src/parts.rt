@@ -2,6 +2,7 @@
 ghost use Rattle.std.specs.Prelude.{◌≡◌, ℕ, ◌^◌, ◌<◌, ◌≤◌, length, slice_index};
 ghost use Rattle.automata.specs.Product.{pair};
 ghost use Rattle.tables.specs.Cells.{accepts, entry};
+ghost use Rattle.tables.specs.View.{moves, accepting};
 ghost use Rattle.joining.specs.Pairs.{Room};
 ghost use Rattle.joining.specs.Parts.{Parted};
 
@@ -13,7 +14,7 @@ use tables::cells::{Class, Table};
 pub fn by_acceptance(t: Table, cls: &mut [u32], firsts: &mut [u32]) -> usize
     requires table { (0 < t.classes) × (t.classes < 2 ^ 32) }
     requires room { (t.classes ≤ length cls.old) × (t.classes ≤ length firsts.old) }
-    ensures { Parted t.entry.classes (accepts t.entry.accept.now) (λ q. slice_index cls.new q) (λ i. slice_index firsts.new i) result }
+    ensures { Parted t.entry.classes (accepting t.entry) (λ q. slice_index cls.new q) (λ i. slice_index firsts.new i) result }
 {
     let start = t.accepts(Class(0));
     firsts[0] = 0;
@@ -50,7 +51,7 @@ pub fn renumber(
     requires room { (t.classes ≤ length cls.now) × (t.classes ≤ length cur.old) × (t.classes ≤ length firsts.old) × Room t.classes lefts.old rights.old index.old }
     requires below { (q : ℕ) → q < t.classes → (slice_index cls.now q < t.classes) × (slice_index cur.old q < t.classes) }
     ensures { Parted t.entry.classes
-        (λ q. pair (slice_index cur.old q) (slice_index cls.now (entry t.entry.rows.now t.entry.width q column)))
+        (λ q. pair (slice_index cur.old q) (slice_index cls.now (moves t.entry q column)))
         (λ q. slice_index cur.new q)
         (λ i. slice_index firsts.new i)
         result }

@@ -1,6 +1,7 @@
 // The table of the parts of a partition.
 ghost use Rattle.std.specs.Prelude.{◌≡◌, ℕ, ◌*◌, ◌^◌, ◌<◌, ◌≤◌, length, ◌≢◌, slice_index};
 ghost use Rattle.tables.specs.Cells.{entry};
+ghost use Rattle.tables.specs.View.{moves};
 ghost use Rattle.joining.specs.Quotient.{Quotient};
 
 use tables::cells::{Class, Table, put};
@@ -18,7 +19,7 @@ fn quotient_row(
 )
     requires table { (k ≤ 12) × (t.width ≡ 2 ^ k) × (from.0 < t.classes) × (to.0 < most) }
     requires room { (t.classes ≤ length cls.now) × (most * t.width ≤ length rows.old) }
-    ensures leads { (a : ℕ) → a < 2 ^ k → entry rows.new (2 ^ k) to.0 a ≡ slice_index cls.now (entry t.entry.rows.now t.entry.width from.0 a) }
+    ensures leads { (a : ℕ) → a < 2 ^ k → entry rows.new (2 ^ k) to.0 a ≡ slice_index cls.now (moves t.entry from.0 a) }
     ensures kept { (i a : ℕ) → (i ≢ to.0) → a < 2 ^ k → entry rows.new (2 ^ k) i a ≡ entry rows.old (2 ^ k) i a }
 {
     for a in 0..1u32 << k {

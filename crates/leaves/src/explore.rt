@@ -1,6 +1,6 @@
 // The table of a claim without parts, by a search over the states of its machine: from the start on, row by row and column by column, each state is numbered as it is found.
 // The states are few, so a state is looked for among those found by comparing.
-ghost use Rattle.std.specs.Prelude.{◌≡◌, ℕ, ◌+◌, ◌*◌, ◌^◌, ◌<◌, ◌≤◌, length, ◌≢◌, slice_index};
+ghost use Rattle.std.specs.Prelude.{◌≡◌, ℕ, ◌+◌, ◌*◌, ◌^◌, ◌<◌, ◌≤◌, length, ◌≢◌, slice_index, MatchOption};
 ghost use Rattle.automata.specs.Machines.{machine, moves};
 ghost use Rattle.automata.specs.Search.{Explored};
 ghost use Rattle.tables.specs.Cells.{entry};
@@ -11,21 +11,12 @@ ghost use Rattle.leaves.specs.Explore.{Entered};
 use super::kind::{Kind, start, step};
 use tables::cells::{Class, put};
 
-// The number of state t among the first `count` of `at`, or `count` where it is not there.
-fn find(at: &[u32], count: usize, t: u32) -> usize
+// The number of state t among the first `count` of `at`, or that it is not there.
+fn find(at: &[u32], count: usize, t: u32) -> Option<usize>
     requires { count ≤ length at.now }
-    ensures most { result ≤ count }
-    ensures there { result < count → slice_index at.now result ≡ t }
-    ensures none { result ≡ count → (j : ℕ) → j < count → slice_index at.now j ≢ t }
+    ensures { MatchOption result ((j : ℕ) → j < count → slice_index at.now j ≢ t) (λ j. (j < count) × (slice_index at.now j ≡ t)) }
 {
-    let mut j = 0;
-    while j < count {
-        if at[j] == t {
-            return j;
-        }
-        j += 1;
-    }
-    count
+    at[..count].iter().position(|state| *state == t)
 }
 
 // Row i, column a, leads to state t: writes its number, a new one where it was not found before. Returns how many are found now.
@@ -41,13 +32,16 @@ fn enter(
     requires { (count < length at.old) × ((i < count) × ((a < width) × ((count * width ≤ length rows.old) × (count < 2 ^ 32)))) }
     ensures { Entered count at.old rows.old width i a t at.new rows.new result }
 {
-    let j = find(at, count, t);
-    put(rows, count, width, Class(i), a, Class(j as u32));
-    if j == count {
-        at[count] = t;
-        count + 1
-    } else {
-        count
+    match find(at, count, t) {
+        Some(j) => {
+            put(rows, count, width, Class(i), a, Class(j as u32));
+            count
+        }
+        None => {
+            put(rows, count, width, Class(i), a, Class(count as u32));
+            at[count] = t;
+            count + 1
+        }
     }
 }
 
@@ -60,11 +54,9 @@ fn explore_row(kind: Kind, k: u32, at: &mut [u32], rows: &mut [u32], count: usiz
 {
     let width = 1u32 << k;
     let mut found = count;
-    let mut a = 0;
-    while a < width {
+    for a in 0..width {
         let t = step(kind, at[i as usize], a);
         found = enter(at, rows, width as usize, found, i, a, t);
-        a += 1;
     }
     found
 }

@@ -1,6 +1,6 @@
 // Claims without parts, behind one form: a start, a step by the sets that a column has, and whether the claim holds where nothing follows.
 // A further kind is one more variant here with its machine; nothing else changes.
-ghost use Rattle.std.specs.Prelude.{◌≡◌, ℕ, ◌<◌};
+ghost use Rattle.std.specs.Prelude.{◌≡◌, ◌<◌};
 ghost use Rattle.automata.specs.Machines.{after, number, residual, machine, moves};
 ghost use Rattle.leaves.specs.Kind.{said, Named};
 

@@ -1,6 +1,6 @@
 // The exact table of a claim without parts: its machine's states are searched, and those that are alike joined.
 // Two sets that are one make states that are alike, as for `next x x`, so whether the claim fits is known only once they are joined.
-ghost use Rattle.std.specs.Prelude.{◌≡◌, ℕ, ◌+◌, ◌*◌, ◌^◌, ◌<◌, ◌≤◌, length, MatchOption, slice_index};
+ghost use Rattle.std.specs.Prelude.{◌≡◌, ℕ, ◌*◌, ◌^◌, ◌<◌, ◌≤◌, length, MatchOption, slice_index};
 ghost use Rattle.claims.specs.Sizes.{Fits};
 ghost use Rattle.automata.specs.Machines.{claim, machine};
 ghost use Rattle.automata.specs.Worked.{Worked};

@@ -1,5 +1,5 @@
 // The answer, from the exact table of the whole claim: whether every class accepts, none does, or else the first word of each sort.
-ghost use Rattle.std.specs.Prelude.{◌≡◌, ℕ, ◌+◌, ◌*◌, ◌^◌, ◌<◌, ◌≤◌, length};
+ghost use Rattle.std.specs.Prelude.{◌+◌, ◌*◌, ◌^◌, ◌<◌, ◌≤◌, length};
 ghost use Rattle.claims.specs.Claims.{C};
 ghost use Rattle.working.specs.Working.{Stands};
 ghost use Rattle.lengths.specs.Answer.{Answered};

@@ -1,5 +1,5 @@
 // The call.
-ghost use Rattle.std.specs.Prelude.{ℕ, ◌+◌, ◌<◌, length};
+ghost use Rattle.std.specs.Prelude.{◌<◌, length};
 ghost use Rattle.lengths.specs.Says.{JudgedPost};
 
 use crate::answer::answer;

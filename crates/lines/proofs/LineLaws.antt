@@ -14,11 +14,6 @@ no_space_before (x ∷ s) (suc r) h = (h 0 (omega arith), no_space_before s r (�
 pub no_space_all : (s : List ℕ) (r : ℕ) → length s ≤ r → ((i : ℕ) → i < r → get_or s i 0 ≡ 32 → ⊥) → NoSpace s
 no_space_all s r l h = subst NoSpace (take_all r s l) (no_space_before s r h)
 
--- a list put together again around place i
-pub around : (s : List ℕ) (i j d : ℕ) → i < length s → j ≡ i → get_or s i 0 ≡ d → take j s ++ (d ∷ take (length s - (i + 1)) (drop (i + 1) s)) ≡ s
-around s i j d h q e =
-    ap₂ (λ n z. take n s ++ z) q (ap₂ (λ x z. x ∷ z) (sym e) (take_rest s (i + 1)) ∙ sym (drop_more s i 0 h)) ∙ take-append-drop i s
-
 has_space : (m r : List ℕ) → NoSpace (m ++ (32 ∷ r)) → ⊥
 has_space [] r h = h.0 refl
 has_space (x ∷ m) r h = has_space m r h.1

@@ -1,5 +1,5 @@
 // What stands on a line: `most hexbytes`, or `most hexbytes outwords`, with one space between them. `-` stands for no bytes.
-ghost use Rattle.std.specs.Prelude.{◌≡◌, ℕ, ◌^◌, ◌<◌, ◌≤◌, ◌⊎◌, List, ◌∷◌, ◌++◌, length, MatchOption, MatchResult, ◌≢◌, slice_index};
+ghost use Rattle.std.specs.Prelude.{◌≡◌, ℕ, ◌^◌, ◌<◌, ◌⊎◌, List, ◌∷◌, ◌++◌, MatchOption, MatchResult};
 ghost use Rattle.lines.specs.Line.{NoSpace, Two, Three, Number, Digit, Pair, Field};
 ghost use Rattle.lines.specs.declared.line.Fault.TheVariants.{Memory};
 
@@ -18,30 +18,15 @@ pub enum Fault<'a> {
     Memory,
 }
 
-// The index of the first space, or the length where there is none.
-fn field_end(text: &[u8]) -> usize
-    ensures within { result ≤ length text.now }
-    ensures before { (i : ℕ) → i < result → slice_index text.now i ≢ 32 }
-    ensures found { result < length text.now → slice_index text.now result ≡ 32 }
-{
-    for (i, b) in text.iter().enumerate() {
-        if *b == b' ' {
-            return i;
-        }
-    }
-    text.len()
-}
-
 // The text before the first space, and the text behind that, if there is a space.
 fn split_field(text: &[u8]) -> (&[u8], Option<&[u8]>)
     ensures field { NoSpace result.0.now }
     ensures rest { MatchOption result.1 (result.0.now ≡ text.now) (λ rest. result.0.now ++ (32 ∷ rest.now) ≡ text.now) }
 {
-    let end = field_end(text);
-    if end == text.len() {
-        return (text, None);
+    match text.iter().position(|b| *b == b' ') {
+        Some(end) => (&text[..end], Some(&text[end + 1..])),
+        None => (text, None),
     }
-    (&text[0..end], Some(&text[end + 1..]))
 }
 
 // The two or three fields of a line, the second of them not empty.

@@ -8,7 +8,8 @@
 ghost use Rattle.std.specs.Prelude.{◌≡◌, ℕ, ◌+◌, ◌^◌, ◌<◌, ◌≤◌, true, ◌↔◌, length, slice_index};
 ghost use Rattle.words.specs.Bits.{put_bit};
 ghost use Rattle.automata.specs.Subsets.{Completes};
-ghost use Rattle.tables.specs.Cells.{entry, accepts};
+ghost use Rattle.tables.specs.Cells.{accepts};
+ghost use Rattle.tables.specs.View.{moves, accepting};
 ghost use Rattle.live.specs.Beyond.{Comers, Queued, Grown, Marking, by_column};
 
 use tables::cells::{Class, Table};
@@ -90,7 +91,7 @@ fn mark_accepting(t: Table, marks: &mut [u32], queue: &mut [u32]) -> usize
     requires few { t.classes < 2 ^ 32 }
     requires room { (t.classes ≤ length marks.old) × (t.classes ≤ length queue.old) }
     ensures queued { Queued t.entry.classes marks.new queue.new result }
-    ensures accepting { (q : ℕ) → q < t.entry.classes → accepts marks.new q ≡ accepts t.entry.accept.now q }
+    ensures accepting { (q : ℕ) → q < t.entry.classes → accepts marks.new q ≡ accepting t.entry q }
 {
     clear(marks, t.classes);
     let mut tail = 0;
@@ -127,8 +128,8 @@ fn mark_behind(
     requires place { i < tail }
     requires comers0 { Comers t.classes t.classes (by_column t.rows.now t.width 0) lists0.heads.now lists0.links.now }
     requires comers1 { Comers t.classes t.classes (by_column t.rows.now t.width with_x) lists1.heads.now lists1.links.now }
-    requires marking { Marking x.0 t.classes (entry t.rows.now t.width) (accepts t.accept.now) marks.old queue.old tail i }
-    ensures { Marking x.0 t.entry.classes (entry t.entry.rows.now t.entry.width) (accepts t.entry.accept.now) marks.new queue.new result (i + 1) }
+    requires marking { Marking x.0 t.classes (moves t) (accepting t) marks.old queue.old tail i }
+    ensures { Marking x.0 t.entry.classes (moves t.entry) (accepting t.entry) marks.new queue.new result (i + 1) }
 {
     let r = Class(queue[i]);
     let more = mark_comers(t, 0, lists0, r, marks, queue, tail);
@@ -154,7 +155,7 @@ pub fn beyond(
     requires room { (t.classes ≤ length completed.old) × (t.classes ≤ length queue.old) }
     requires room0 { (t.classes ≤ length heads0.old) × (t.classes ≤ length links0.old) }
     requires room1 { (t.classes ≤ length heads1.old) × (t.classes ≤ length links1.old) }
-    ensures { (q : ℕ) → q < t.entry.classes → (accepts completed.new q ≡ true) ↔ Completes x.0 (entry t.entry.rows.now t.entry.width) (accepts t.entry.accept.now) q }
+    ensures { (q : ℕ) → q < t.entry.classes → (accepts completed.new q ≡ true) ↔ Completes x.0 (moves t.entry) (accepting t.entry) q }
 {
     let with_x = lone(x, k);
     comers(t, 0, heads0, links0);

@@ -7,6 +7,7 @@ ghost use Rattle.std.specs.Prelude.{◌≡◌, ℕ, ◌^◌, ◌<◌, ◌≤◌,
 ghost use Rattle.automata.specs.Tables.{Connected, Collapsed};
 ghost use Rattle.automata.specs.Subsets.{Live};
 ghost use Rattle.tables.specs.Cells.{entry, accepts};
+ghost use Rattle.tables.specs.View.{moves, accepting};
 ghost use Rattle.live.specs.Dead.{lives};
 
 use tables::cells::{Class, Table};
@@ -14,9 +15,9 @@ use tables::cells::{Class, Table};
 // Whether class q does not accept and every column leads from it back to it.
 fn is_dead(t: Table, q: Class) -> bool
     requires { (q.0 < t.classes) × (t.width < 2 ^ 32) }
-    ensures rejects { result ≡ true → accepts t.entry.accept.now q.0 ≡ false }
-    ensures stays { result ≡ true → (a : ℕ) → a < t.entry.width → entry t.entry.rows.now t.entry.width q.0 a ≡ q.0 }
-    ensures open { result ≡ false → (accepts t.entry.accept.now q.0 ≡ true) ⊎ ((a : ℕ) × (a < t.entry.width) × (entry t.entry.rows.now t.entry.width q.0 a ≢ q.0)) }
+    ensures rejects { result ≡ true → accepting t.entry q.0 ≡ false }
+    ensures stays { result ≡ true → (a : ℕ) → a < t.entry.width → moves t.entry q.0 a ≡ q.0 }
+    ensures open { result ≡ false → (accepting t.entry q.0 ≡ true) ⊎ ((a : ℕ) × (a < t.entry.width) × (moves t.entry q.0 a ≢ q.0)) }
 {
     if t.accepts(q) {
         return false;
@@ -33,10 +34,10 @@ fn is_dead(t: Table, q: Class) -> bool
 pub fn dead(t: Table, k: u32) -> usize
     requires wide { (t.width ≡ 2 ^ k) × (k ≤ 12) }
     requires few { t.classes < 2 ^ 32 }
-    requires connected { Connected k t.classes (entry t.rows.now t.width) }
-    requires collapsed { Collapsed k t.classes (entry t.rows.now t.width) (accepts t.accept.now) }
+    requires connected { Connected k t.classes (moves t) }
+    requires collapsed { Collapsed k t.classes (moves t) (accepting t) }
     ensures within { result ≤ t.entry.classes }
-    ensures live { (q : ℕ) → q < t.entry.classes → (lives t.entry.classes result q ≡ true) ↔ Live k (entry t.entry.rows.now t.entry.width) (accepts t.entry.accept.now) q }
+    ensures live { (q : ℕ) → q < t.entry.classes → (lives t.entry.classes result q ≡ true) ↔ Live k (moves t.entry) (accepting t.entry) q }
 {
     for q in 0..t.classes {
         if is_dead(t, Class(q as u32)) {

@@ -7,7 +7,7 @@ use Rattle.tables.specs.Search.{Searching}
 use Rattle.tables.proofs.SearchLaws.{searching_start, searching_row, searching_old, searching_new, searching_many, searching_end}
 use Rattle.tables.specs.Numbering.{pair_at, NumberOf, NoNumber, Numbered}
 use Rattle.product.specs.Pairing.{steps, Room, Pairing, InRow, Found, TooManyPairs}
-use Rattle.product.specs.Pairs.{moves}
+use Rattle.tables.specs.View.{moves}
 use Rattle.product.specs.declared.factors.Factors.{Factors}
 
 pair_same : {x y u v : ℕ} → x ≡ u → y ≡ v → pair x y ≡ pair u v

@@ -5,14 +5,7 @@ use Rattle.automata.specs.Search.{Explored}
 use Rattle.tables.specs.Cells.{entry, accepts}
 use Rattle.tables.specs.declared.cells.Table.{Table}
 use Rattle.tables.specs.Numbering.{pair_at}
-
--- where a column leads in a table
-abbrev pub moves : Table → ℕ → ℕ → ℕ
-moves t = entry t.rows.now t.width
-
--- which of its classes accept
-abbrev pub accepting : Table → ℕ → Bool
-accepting t = accepts t.accept.now
+use Rattle.tables.specs.View.{moves, accepting}
 
 -- where a column leads from a pair of classes
 abbrev pub pair_moves : Table → Table → Pair → ℕ → Pair

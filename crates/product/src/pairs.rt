@@ -12,7 +12,8 @@ ghost use Rattle.std.specs.Prelude.{◌≡◌, ℕ, ◌+◌, ◌*◌, ◌^◌, �
 ghost use Rattle.automata.specs.Product.{pair};
 ghost use Rattle.automata.specs.Search.{TooMany};
 ghost use Rattle.tables.specs.Cells.{accepts};
-ghost use Rattle.product.specs.Pairs.{accepting, pair_moves, Paired};
+ghost use Rattle.product.specs.Pairs.{pair_moves, Paired};
+ghost use Rattle.tables.specs.View.{accepting};
 ghost use Rattle.product.specs.Pairing.{Room, Pairing, InRow, Found, TooManyPairs};
 
 use crate::factors::Factors;

@@ -3,6 +3,7 @@ use Rattle.std.specs.Prelude.{◌≡◌, ℕ, ◌+◌, ◌*◌, ◌/◌, ◌^◌
 use Rattle.automata.specs.Subsets.{step_set, start_set, accepts_set}
 use Rattle.automata.specs.Search.{Explored, TooMany}
 use Rattle.tables.specs.Cells.{entry, accepts}
+use Rattle.tables.specs.View.{moves}
 use Rattle.tables.specs.Search.{Searching}
 use Rattle.subsets.specs.declared.projection.Projection.{Projection}
 use Rattle.bitsets.specs.Bitrows.{member}
@@ -11,7 +12,7 @@ use Rattle.bitsets.specs.Intern.{Interned}
 
 -- the step, the start and the acceptance of sets
 abbrev pub step_of : Projection → (ℕ → Bool) → ℕ → ℕ → Bool
-step_of p = step_set p.t.classes (entry p.t.rows.now p.t.width) (lives p.t.classes p.dead) p.x.0
+step_of p = step_set p.t.classes (moves p.t) (lives p.t.classes p.dead) p.x.0
 
 abbrev pub start_of : Projection → ℕ → Bool
 start_of p = start_set (lives p.t.classes p.dead)

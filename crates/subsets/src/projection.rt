@@ -1,10 +1,11 @@
 // The subset construction: the sets of live classes that are reached when, column by column, both values of bit x are allowed.
-ghost use Rattle.std.specs.Prelude.{◌≡◌, ℕ, ◌+◌, ◌*◌, ◌^◌, ◌<◌, ◌≤◌, true, false, List, length, MatchOption, slice_index};
+ghost use Rattle.std.specs.Prelude.{◌≡◌, ℕ, ◌+◌, ◌*◌, ◌^◌, ◌<◌, ◌≤◌, false, List, length, MatchOption, slice_index};
 ghost use Rattle.words.specs.Words.{bit};
 ghost use Rattle.words.specs.Bits.{put_bit};
 ghost use Rattle.automata.specs.Search.{TooMany};
 ghost use Rattle.automata.specs.Subsets.{step_set, start_set};
 ghost use Rattle.tables.specs.Cells.{entry, put_entry, accepts};
+ghost use Rattle.tables.specs.View.{moves};
 ghost use Rattle.bitsets.specs.Bitrows.{row_at, member, Below};
 ghost use Rattle.live.specs.Dead.{lives};
 ghost use Rattle.subsets.specs.Projection.{step_of, start_of, says_of, Posed, Room, Found, Ready, Further, Excess, words, Projected};
@@ -232,7 +233,7 @@ pub fn subsets(
     requires classes { (0 < t.classes) × (t.classes ≤ most) × (most < 2 ^ 32) × (t.classes ≤ length completed.now) }
     requires table { (most * 2 ^ k ≤ length rows.old) × (most ≤ length accept.old) × ((most + 1) * words t.classes ≤ length sets.old) }
     requires chains { (0 < length heads.old) × (most < length links.old) × (most < length buckets.old) }
-    ensures { MatchOption result (TooMany k (step_set t.entry.classes (entry t.entry.rows.now t.entry.width) (lives t.entry.classes dead) x.0) (start_set (lives t.entry.classes dead)) most) (Projected k t.entry.classes (entry t.entry.rows.now t.entry.width) dead x.0 (accepts completed.now) most rows.new accept.new sets.new) }
+    ensures { MatchOption result (TooMany k (step_set t.entry.classes (moves t.entry) (lives t.entry.classes dead) x.0) (start_set (lives t.entry.classes dead)) most) (Projected k t.entry.classes (moves t.entry) dead x.0 (accepts completed.now) most rows.new accept.new sets.new) }
 {
     let w = (t.classes + 31) / 32;
     let p = Projection {

@@ -1,6 +1,7 @@
 // The set of the live classes to which two columns lead from the classes of a set. Sets are rows of w words, one behind the other in one slice.
 ghost use Rattle.std.specs.Prelude.{◌≡◌, ℕ, ◌+◌, ◌*◌, ◌^◌, ◌<◌, ◌≤◌, length, ◌≢◌};
 ghost use Rattle.tables.specs.Cells.{entry};
+ghost use Rattle.tables.specs.View.{moves};
 ghost use Rattle.live.specs.Dead.{lives};
 ghost use Rattle.bitsets.specs.Bitrows.{has, row_at, member, Adds, SomeBit, BitsBelow, Below};
 ghost use Rattle.subsets.specs.Successors.{Leads, Successors};
@@ -23,7 +24,7 @@ fn follow_class(t: Table, row: &mut [u32], p: Class, a: u32, b: u32, dead: usize
     requires inside { p.0 < t.classes }
     requires columns { (a < t.width) × (b < t.width) }
     requires room { t.classes ≤ 32 * length row.old }
-    ensures { Adds (has row.old) (has row.new) (λ r. Leads (entry t.entry.rows.now t.entry.width) (lives t.entry.classes dead) a b r p.0) }
+    ensures { Adds (has row.old) (has row.new) (λ r. Leads (moves t.entry) (lives t.entry.classes dead) a b r p.0) }
 {
     put_live(row, t.next(p, a), dead);
     put_live(row, t.next(p, b), dead);
@@ -35,7 +36,7 @@ fn follow_word(t: Table, row: &mut [u32], word: u32, from: usize, a: u32, b: u32
     requires columns { (a < t.width) × (b < t.width) }
     requires room { t.classes ≤ 32 * length row.old }
     requires small { (t.classes < 2 ^ 32) × (from < 2 ^ 40) }
-    ensures { Adds (has row.old) (has row.new) (λ r. SomeBit (Leads (entry t.entry.rows.now t.entry.width) (lives t.entry.classes dead) a b r) from word) }
+    ensures { Adds (has row.old) (has row.new) (λ r. SomeBit (Leads (moves t.entry) (lives t.entry.classes dead) a b r) from word) }
 {
     let mut left = word;
     let mut p = from;
@@ -64,7 +65,7 @@ pub fn follow(
     requires columns { (a < t.width) × (b < t.width) }
     requires room { (to * w + w ≤ length sets.old) × (t.classes ≤ 32 * w) }
     requires small { (t.classes < 2 ^ 32) × (w < 2 ^ 32) }
-    ensures made { Successors (entry t.entry.rows.now t.entry.width) (lives t.entry.classes dead) a b (member sets.old w i) (member sets.new w to) }
+    ensures made { Successors (moves t.entry) (lives t.entry.classes dead) a b (member sets.old w i) (member sets.new w to) }
     ensures kept { (j : ℕ) → j < to → row_at sets.new w j ≡ row_at sets.old w j }
 {
     clear(&mut sets[to * w..to * w + w]);

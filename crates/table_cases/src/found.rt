@@ -1,6 +1,6 @@
 // The search over the classes of a table, and the first words that it accepts and does not.
-ghost use Rattle.std.specs.Prelude.{◌≡◌, ◌≤◌, length};
-ghost use Rattle.tables.specs.Cells.{entry};
+ghost use Rattle.std.specs.Prelude.{◌≤◌, length};
+ghost use Rattle.tables.specs.View.{moves};
 ghost use Rattle.firsts.specs.Search.{Searched};
 
 use crate::checked::{is_table, table};
@@ -21,7 +21,7 @@ fn word_case(
     found: usize,
     wanted: bool,
 ) -> io::Result<()>
-    requires searched { Searched 1 t.classes (entry t.rows.now t.width) found queue.now prev.now via.now }
+    requires searched { Searched 1 t.classes (moves t) found queue.now prev.now via.now }
     requires room { (found ≤ length queue.now) × ((found ≤ length prev.now) × (found ≤ length via.now)) }
 {
     let Some(j) = first(t, queue, found, wanted) else {

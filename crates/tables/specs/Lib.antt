@@ -2,3 +2,4 @@
 pub mod Cells
 pub mod Search
 pub mod Numbering
+pub mod View

@@ -1,9 +1,7 @@
 // What each sign makes of the exact tables of its parts: the claim's own exact table in their place, or that it does not fit.
-ghost use Rattle.std.specs.Prelude.{◌≡◌, ℕ, ◌+◌, ◌*◌, ◌^◌, ◌<◌, ◌≤◌, length};
+ghost use Rattle.std.specs.Prelude.{◌+◌, ◌*◌, ◌^◌, ◌<◌, ◌≤◌, length};
 ghost use Rattle.claims.specs.Claims.{C, and1, some};
 ghost use Rattle.automata.specs.Machines.{claim};
-ghost use Rattle.automata.specs.Worked.{Worked};
-ghost use Rattle.tables.specs.Cells.{entry, accepts};
 ghost use Rattle.leaves.specs.Kind.{said, Named};
 ghost use Rattle.working.specs.Working.{Result, Stands};
 

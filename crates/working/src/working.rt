@@ -1,5 +1,5 @@
 // Working a claim out, part by part, in prefix order over its bytes.
-ghost use Rattle.std.specs.Prelude.{ℕ, ◌^◌, ◌<◌, ◌≤◌, ◌∷◌, length};
+ghost use Rattle.std.specs.Prelude.{◌^◌, ◌<◌, ◌≤◌, ◌∷◌, length};
 ghost use Rattle.working.specs.Working.{Halves, WorkedOut, Lent, IsPart};
 
 use crate::combine::{conjoin, project, work_leaf};

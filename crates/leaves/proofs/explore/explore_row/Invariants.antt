@@ -1,4 +1,4 @@
-use Rattle.std.proofs.Common.{◌≡◌, ◌-◌, ◌^◌, ◌≤◌}
+use Rattle.std.proofs.Common.{◌≡◌, ◌^◌, ◌≤◌}
 use Rattle.leaves.specs.Kind.{said}
 use Rattle.leaves.proofs.ExploreLaws.{Far}
 use Rattle.leaves.proofs.explore.explore_row.Given as goal
@@ -6,6 +6,3 @@ use Rattle.leaves.proofs.explore.explore_row.Given as goal
 -- the columns before a are done
 abbrev pub invariant-loop-a : goal.invariant-loop-a
 invariant-loop-a l = (l.width ≡ 2 ^ l.k) × (l.a ≤ l.width) × (l.count ≤ l.found) × Far (said l.kind) l.k l.found l.at l.rows l.i l.a
-
-abbrev pub decreases-loop-a : goal.decreases-loop-a
-decreases-loop-a l = l.width - l.a

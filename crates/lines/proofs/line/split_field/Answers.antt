@@ -1,15 +1,13 @@
-use Rattle.std.proofs.Common.{◌≡◌, ◌-◌, ◌<◌, length, take, refl, subst, arith}
-use Rattle.lines.specs.Line.{NoSpace}
-use Rattle.lines.proofs.LineLaws.{around, no_space_before, no_space_all}
+use Rattle.std.proofs.Common.{◌≡◌, ℕ, ◌<◌, length, get_or, arith, rules}
+use Rattle.lines.proofs.LineLaws.{no_space_before, no_space_all}
 use Rattle.lines.proofs.line.split_field.Goals as goal
 
-pub returns-then-end-text : goal.returns-then-end-text
-returns-then-end-text c = record { field = no_space_all c.args.text.now c.field_end-end.result (omega arith) c.field_end-end.ensures.before; rest = refl }
+pub returns-in-Some-clause-field : goal.returns-in-Some-clause-field
+returns-in-Some-clause-field c =
+    let h : (i : ℕ) → i < c.in-Some.end → get_or c.args.text.now i 0 ≡ 32 → ⊥ = search rules in
+    no_space_before _ _ h
 
-pub returns : goal.returns
-returns c =
-    let s = c.args.text.now in
-    let i = c.field_end-end.result in
-    let h : i < length s = omega arith in
-    let z : i ≡ i - 0 = omega arith in
-    record { field = subst (λ j. NoSpace (take j s)) z (no_space_before s i c.field_end-end.ensures.before); rest = around s i (i - 0) 32 h (omega arith) (c.field_end-end.ensures.found h) }
+pub returns-in-None-clause-field : goal.returns-in-None-clause-field
+returns-in-None-clause-field c =
+    let h : (i : ℕ) → i < length c.args.text.now → get_or c.args.text.now i 0 ≡ 32 → ⊥ = search rules in
+    no_space_all _ _ (omega arith) h

@@ -1,6 +1,6 @@
 use Rattle.std.proofs.Common.{◌≡◌, ℕ, ◌<◌, ◌&&◌, get_or}
 use Rattle.tables.specs.Cells.{accepts}
-use Rattle.product.specs.Pairs.{accepting}
+use Rattle.tables.specs.View.{accepting}
 use Rattle.product.proofs.pairs.accept_both.Given as goal
 
 -- the pairs before i are marked
