@@ -47,21 +47,6 @@ returns-in_default-work_out c =
     judged_many c.args.claim.now c.args.most c.args.out.now _ (enough _ c.too_few.result c.too_few.ensures c.if-too_few.false)
     c.in-Some.k d y (c.in_default-work_out.ensures d (claim_front c.args.claim.now c.in-Some.k d y))
 
-pub answer-requires : goal.answer-requires
-answer-requires c =
-    let (d, y) = c.in-Some.ensures.said in
-    let (_, h, _) = claim_few c.args.claim.now c.in-Some.k d y in
-    let w : (1 * 2 ^ c.in-Some.k) % 2 ^ 64 ≡ 2 ^ c.in-Some.k = one_shl c.in-Some.k 64 (omega arith) in
-    let r = c.cut_work-rows.ensures in
-    let l = c.work_out.auto in
-    let e : c.from.result ≡ c.in-Some.k = c.from.ensures in
-    let t : Stands c.in-Some.k c.args.most d c.work_out.new.rows c.work_out.new.accept c.in-Some-work_out.m = c.in-Some-work_out.ensures d (claim_front c.args.claim.now c.in-Some.k d y) in
-    record {
-      small = (omega arith, omega arith, omega arith);
-      stands = (d, subst (λ k. Stands k c.args.most d c.work_out.new.rows c.work_out.new.accept c.in-Some-work_out.m) (sym e) t);
-      room = answer_room c.in-Some.k c.from.result c.args.most _ _ _ _ w e (l.rows ∙ r.rows) (l.accept ∙ r.accept) (l.scratch ∙ r.scratch);
-    }
-
 pub returns : goal.returns
 returns c =
     let (d, y) = c.in-Some.ensures.said in

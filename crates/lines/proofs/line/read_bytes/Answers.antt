@@ -14,9 +14,6 @@ returns-then-field-eq1-2 c = inr (λ t h. elim h [
   | inr p ↦ (let e = pairs_even c.args.field.now t p in omega arith)
 ])
 
-pub loop-rest-init : goal.loop-rest-init
-loop-rest-init c = (omega arith, λ t p. subst (λ z. Pairs c.args.field.now (z ++ t)) (sym c.new-bytes.ensures.items) p, λ t p. (t, p))
-
 -- two characters that are no pair of digits
 pub returns-in_default-hex_pair : goal.returns-in_default-hex_pair
 returns-in_default-hex_pair c = inr (λ t h. elim h [

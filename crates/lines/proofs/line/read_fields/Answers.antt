@@ -3,9 +3,6 @@ use Rattle.lines.specs.Line.{NoSpace}
 use Rattle.lines.proofs.LineLaws.{unfit_empty, unfit_no_space, unfit_second, unfit_fourth}
 use Rattle.lines.proofs.line.read_fields.Goals as goal
 
-pub returns-then-is_empty : goal.returns-then-is_empty
-returns-then-is_empty c = unfit_empty c.args.line.now (search rules)
-
 pub returns-in_default : goal.returns-in_default
 returns-in_default c =
     let e : c.split_field.result.0.now ≡ c.args.line.now = search rules in

@@ -28,44 +28,9 @@ dead-dead_class-requires c =
       collapsed = stands_collapsed c.args.k c.args.most _ w c.requires.part.0 c.args.m c.args.rows.now c.args.accept.now s;
     }
 
-pub subsets-requires : goal.subsets-requires
-subsets-requires c =
-    let w : (1 * 2 ^ c.args.k) % 2 ^ 64 ≡ 2 ^ c.args.k = one_shl c.args.k 64 (omega arith) in
-    let s = c.requires.part.1 in
-    let few : c.args.m ≤ c.args.most = s.0 in
-    let start = stands_start c.args.k c.args.most c.requires.part.0 c.args.rows.now c.args.accept.now c.args.m s in
-    let short : words c.args.m ≤ c.args.most = omega arith in
-    let l = mul-le (c.args.most + 1) (words c.args.m) (c.args.most + 1) c.args.most (omega arith) short in
-    record {
-      columns = (w, omega arith, omega arith);
-      classes = (start, few, omega arith, omega arith);
-      table = (rw (sym w) (omega arith), omega arith, omega arith);
-      chains = (omega arith, omega arith, omega arith);
-    }
-
 pub returns-in_err-count : goal.returns-in_err-count
 returns-in_err-count c = rw c.from_residual.ensures (λ a s. project_many c.args.k c.args.most _ (one_shl c.args.k 64 (omega arith)) a c.args.m c.args.rows.now c.args.accept.now s
     c.args.x.0 (omega arith) c.dead-dead_class.result c.dead-dead_class.ensures.live c.in_err-count.ensures)
-
-pub join_into-requires : goal.join_into-requires
-join_into-requires c =
-    let w : (1 * 2 ^ c.args.k) % 2 ^ 64 ≡ 2 ^ c.args.k = one_shl c.args.k 64 (omega arith) in
-    let p = c.in_ok-count.ensures in
-    let few : c.in_ok-count.count ≤ c.args.most = p.few in
-    let m = mul-le c.in_ok-count.count c.in_ok-count.count (c.args.most + 1) c.args.most (omega arith) few in
-    let l = mul-le c.in_ok-count.count (2 ^ c.args.k) c.args.most (2 ^ c.args.k) few (omega arith) in
-    let room : c.in_ok-count.count ≤ c.args.most + 10 = omega arith in
-    let arrays = c.cut_scratch-a.ensures.arrays in
-    let cls : c.in_ok-count.count ≤ length c.beyond.new.completed = subst (λ z. c.in_ok-count.count ≤ z) (sym (c.beyond.auto.completed ∙ arrays.a_long)) room in
-    let firsts : c.in_ok-count.count ≤ length c.subsets.new.heads = subst (λ z. c.in_ok-count.count ≤ z) (sym (c.subsets.auto.heads ∙ (c.beyond.auto.heads0 ∙ arrays.b_long))) room in
-    let cur : c.in_ok-count.count ≤ length c.subsets.new.links = subst (λ z. c.in_ok-count.count ≤ z) (sym (c.subsets.auto.links ∙ (c.beyond.auto.links0 ∙ arrays.c_long))) room in
-    let lefts : c.in_ok-count.count ≤ length c.subsets.new.buckets = subst (λ z. c.in_ok-count.count ≤ z) (sym (c.subsets.auto.buckets ∙ (c.beyond.auto.heads1 ∙ arrays.d_long))) room in
-    let rights : c.in_ok-count.count ≤ length c.beyond.new.links1 = subst (λ z. c.in_ok-count.count ≤ z) (sym (c.beyond.auto.links1 ∙ arrays.e_long)) room in
-    record {
-      table = (omega arith, w, p.explored.connected.start, omega arith);
-      room = (cls, firsts, cur, record { lefts_fit = lefts; rights_fit = rights; index_fits = omega arith });
-      into = (rw w (omega arith), omega arith);
-    }
 
 pub returns : goal.returns
 returns c a s =

@@ -6,11 +6,6 @@ use Rattle.working.proofs.working.two_parts.Goals as goal
 pub unreachable-requires : goal.unreachable-requires
 unreachable-requires c = no_first c.args.k c.args.rest.now (5 ∷ c.args.rest.now) refl c.in_default.ensures c.requires.0 [] c.requires.1
 
-pub overflow_sub-first : goal.overflow_sub-first
-overflow_sub-first c =
-    let (d, f) = c.in-Some.ensures in
-    omega (arith, shorter c.args.k d c.args.rest.now c.in-Some.second.now f)
-
 pub returns-then-first-second : goal.returns-then-first-second
 returns-then-first-second c =
     let (d, f) = c.in-Some.ensures in
