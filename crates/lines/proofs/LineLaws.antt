@@ -1,6 +1,6 @@
 -- How a line is taken apart at its spaces, and that this goes in one way only; what digits and pairs of digits write, one step at a time.
-use Rattle.std.proofs.Common.{◌≡◌, ℕ, zero, suc, ◌+◌, ◌-◌, ◌*◌, ◌%◌, ◌<◌, ◌≤◌, ◌↔◌, List, [], ◌∷◌, ◌++◌, length, get_or, take, drop, Some, None, Option, sym, refl, ap, ◌∙◌, subst, ap₂, arith, Bor, MatchOption}
-use Rattle.std.proofs.lemmas.List.{take_all, take_rest, take-append-drop, drop_more}
+use Rattle.std.proofs.Common.{◌≡◌, ℕ, zero, suc, ◌+◌, ◌-◌, ◌*◌, ◌%◌, ◌<◌, ◌≤◌, ◌↔◌, List, [], ◌∷◌, ◌++◌, length, get_or, take, drop, Some, None, Option, sym, refl, ap, ◌∙◌, subst, arith, Bor, MatchOption}
+use Rattle.std.proofs.lemmas.List.{take_all}
 use Rattle.claims.proofs.SignLaws.{back1, back2}
 use Rattle.lines.specs.Line.{NoSpace, Two, Three, Decimal, Pair, Pairs}
 

@@ -1,14 +1,14 @@
-use Rattle.std.proofs.Common.{◌≡◌, ◌*◌, ◌%◌, ◌^◌, sym, ◌∙◌, subst, arith}
+use Rattle.std.proofs.Common.{◌≡◌, ◌*◌, ◌%◌, ◌^◌, sym, subst, arith}
 use Rattle.std.proofs.lemmas.Nat.{one_shl}
 use Rattle.claims.specs.Sizes.{Fits}
 use Rattle.lengths.specs.Answer.{Answered}
 use Rattle.working.specs.Working.{Stands}
-use Rattle.lengths.proofs.JudgeLaws.{answer_room, claim_few, claim_front, enough, judged_answer, judged_few, judged_many, judged_no_claim, lent_whole, work_enough}
+use Rattle.lengths.proofs.JudgeLaws.{claim_few, claim_front, enough, judged_answer, judged_few, judged_many, judged_no_claim, lent_whole, work_enough}
 use Rattle.working.proofs.WorkingLaws.{columns_few, fits_none}
 use Rattle.lengths.proofs.judge.judge.Goals as goal
 
 pub returns-then-too_few : goal.returns-then-too_few
-returns-then-too_few c = judged_few c.args.claim.now c.args.most c.args.out.now _ (c.too_few.ensures.1 c.if-too_few.true)
+returns-then-too_few c = judged_few c.args.claim.now c.args.most c.args.out.now _ (c.too_few.ensures.0 c.if-too_few.true)
 
 pub returns-in_default : goal.returns-in_default
 returns-in_default c =

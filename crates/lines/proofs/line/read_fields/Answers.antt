@@ -1,6 +1,6 @@
 use Rattle.std.proofs.Common.{◌≡◌, ◌∷◌, ◌++◌, subst, rules}
 use Rattle.lines.specs.Line.{NoSpace}
-use Rattle.lines.proofs.LineLaws.{unfit_empty, unfit_no_space, unfit_second, unfit_fourth}
+use Rattle.lines.proofs.LineLaws.{unfit_no_space, unfit_second, unfit_fourth}
 use Rattle.lines.proofs.line.read_fields.Goals as goal
 
 pub returns-in_default : goal.returns-in_default
