@@ -2,3 +2,4 @@
 #![tactic(auto)]
 
 pub mod formula;
+pub mod name;
