@@ -1,0 +1,7 @@
+// From a formula to the bytes of its claim.
+#![tactic(auto)]
+
+
+pub mod scope;
+pub mod terms;
+pub mod tree;
