@@ -4,4 +4,5 @@
 
 pub mod scope;
 pub mod terms;
+pub mod translate;
 pub mod tree;

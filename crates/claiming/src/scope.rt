@@ -8,6 +8,7 @@ ghost use Rattle.claiming.specs.Scope.{number_of};
 use formulas::name::Name;
 
 // The caller's names have their places in the list for numbers; what quantifiers have bound comes before them, the innermost first.
+#[derive(Clone, Copy, Drop)]
 pub enum Scope<'a> {
     Free(&'a [Name]),
     Bound(Name, usize, &'a Scope<'a>),

@@ -1,0 +1,17 @@
+use Rattle.std.proofs.Common.{◌≡◌, ℕ, [], ◌∷◌, ◌++◌, sym, ◌∙◌, ap, arith}
+use Rattle.std.proofs.lemmas.Grind.{common_steps}
+use Rattle.formulas.specs.Names.{names_place, names_group}
+use Rattle.claims.specs.Claims.{C, before}
+use Rattle.translating.specs.Numbers.{numbers, fresh}
+use Rattle.translating.specs.Translation.{about, is_place, is_in}
+use Rattle.claiming.specs.Scope.{number_of}
+use Rattle.claiming.specs.Points.{set_of, about_set}
+use Rattle.claiming.proofs.PointsLaws.{about_set_is}
+use Rattle.claiming.proofs.translate.same.Goals as goal
+
+pub returns : goal.returns
+returns c =
+    let ρ = number_of c.args.scope.now in
+    let m = fresh (numbers ρ (names_place c.args.s.now ++ names_place c.args.t.now)) in
+    let is = about_set_is ρ c.args.t.now m (is_place c.args.t.now ρ m) (λ b. is_place c.args.s.now ρ b) in
+    grind (arith, common_steps, is)
