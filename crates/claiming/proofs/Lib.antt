@@ -1,1 +1,2 @@
 pub mod PointsLaws
+pub mod LengthsLaws

@@ -3,3 +3,4 @@ pub mod Tree
 pub mod Listed
 pub mod Scope
 pub mod Points
+pub mod Lengths

@@ -2,6 +2,7 @@
 #![tactic(auto)]
 
 
+pub mod length;
 pub mod scope;
 pub mod terms;
 pub mod translate;
