@@ -1,7 +1,8 @@
 -- The claim of a formula is as long as its shape says.
-use Rattle.std.proofs.Common.{◌≡◌, ℕ, ◌+◌, ◌∷◌, ◌++◌, [], length, refl, sym, ap, ◌∙◌, arith, length-append}
-use Rattle.claims.specs.Claims.{C, next, before, not1, and1}
+use Rattle.std.proofs.Common.{◌≡◌, ℕ, ◌+◌, List, ◌∷◌, ◌++◌, [], length, refl, ◌∙◌, arith, length-append}
+use Rattle.claims.specs.Claims.{C, before, not1, and1, single}
 use Rattle.claims.specs.Rows.{row}
+use Rattle.formulas.specs.declared.name.Name.{Name}
 use Rattle.formulas.specs.declared.name.Name.TheVariants.{OfPlace, OfGroup}
 use Rattle.formulas.specs.declared.formula.Place.{Place}
 use Rattle.formulas.specs.declared.formula.Group.{Group}
@@ -11,8 +12,9 @@ use Rattle.formulas.specs.declared.formula.Group.TheVariants.{Named as group, Em
 use Rattle.formulas.specs.declared.formula.Formula.TheVariants.{True, Same, Less, In, Sub, Not', And', Or', Implies', Some1', All1', Some2', All2'}
 use Rattle.formulas.specs.Names.{names_place, names_group, names, without}
 use Rattle.translating.specs.Numbers.{Numbering, numbered, numbers, fresh}
-use Rattle.translating.specs.Translation.{or1, implies1, some_place, all_places, all_sets, lies, is_first, is_before, is_end, about, behind, is_place, is_in, each_in, set_within, is_within, claim}
-use Rattle.claiming.specs.Lengths.{about_length, behind_length, place_length, group_length, set_within_length, within_length, formula_length}
+use Rattle.translating.specs.Translation.{some_place, lies, is_before, is_end, about, behind, is_place, is_in, each_in, set_within, is_within, claim}
+use Rattle.translating.specs.Settles.{singles}
+use Rattle.claiming.specs.Lengths.{about_length, behind_length, place_length, group_length, set_within_length, within_length, formula_length, places_length}
 
 abbrev bytes : C → ℕ
 bytes c = length (row c)
@@ -91,3 +93,8 @@ formula_bytes (Some1' x _ a) ρ = let p = formula_bytes a (numbered ρ (OfPlace 
 formula_bytes (All1' x _ a) ρ = let p = formula_bytes a (numbered ρ (OfPlace x) (fresh (numbers ρ (without (OfPlace x) (names a))))) in omega arith
 formula_bytes (Some2' x _ a) ρ = let p = formula_bytes a (numbered ρ (OfGroup x) (fresh (numbers ρ (without (OfGroup x) (names a))))) in omega arith
 formula_bytes (All2' x _ a) ρ = let p = formula_bytes a (numbered ρ (OfGroup x) (fresh (numbers ρ (without (OfGroup x) (names a))))) in omega arith
+
+pub singles_bytes : (ρ : Numbering) (l : List Name) (c : C) → bytes (singles ρ l c) ≡ bytes c + places_length l
+singles_bytes ρ [] c = omega arith
+singles_bytes ρ (OfPlace x ∷ l) c = let r = singles_bytes ρ l (and1 (single (ρ (OfPlace x))) c) in omega arith
+singles_bytes ρ (OfGroup x ∷ l) c = singles_bytes ρ l c

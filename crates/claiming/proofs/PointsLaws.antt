@@ -2,7 +2,7 @@
 use Rattle.std.proofs.Common.{◌≡◌, ℕ, refl}
 use Rattle.claims.specs.Claims.{C}
 use Rattle.formulas.specs.declared.formula.Place.{Place}
-use Rattle.formulas.specs.declared.formula.Place.TheVariants.{Named, First, Succ', Prev', Least', Most'}
+use Rattle.formulas.specs.declared.formula.Place.TheVariants.{Named}
 use Rattle.translating.specs.Numbers.{Numbering}
 use Rattle.translating.specs.Translation.{about}
 use Rattle.claiming.specs.Points.{set_of, about_set}

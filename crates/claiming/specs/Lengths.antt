@@ -1,5 +1,7 @@
 -- How many bytes the claim of a formula takes, whatever the numbers of its sets: a claim is as long as its shape says.
-use Rattle.std.specs.Prelude.{ℕ, ◌+◌, ◌*◌}
+use Rattle.std.specs.Prelude.{ℕ, ◌+◌, ◌*◌, List, [], ◌∷◌}
+use Rattle.formulas.specs.declared.name.Name.{Name}
+use Rattle.formulas.specs.declared.name.Name.TheVariants.{OfPlace, OfGroup}
 use Rattle.formulas.specs.declared.formula.Place.{Place}
 use Rattle.formulas.specs.declared.formula.Group.{Group}
 use Rattle.formulas.specs.declared.formula.Formula.{Formula}
@@ -57,3 +59,9 @@ formula_length (Some1' x _ a) = formula_length a + 5
 formula_length (All1' x _ a) = formula_length a + 7
 formula_length (Some2' x _ a) = formula_length a + 2
 formula_length (All2' x _ a) = formula_length a + 4
+
+-- that the listed places are places
+abbrev pub places_length : List Name → ℕ
+places_length [] = 0
+places_length (OfPlace x ∷ l) = places_length l + 3
+places_length (OfGroup x ∷ l) = places_length l

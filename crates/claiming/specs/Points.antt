@@ -3,7 +3,7 @@ use Rattle.std.specs.Prelude.{ℕ}
 use Rattle.claims.specs.Claims.{C, and1}
 use Rattle.formulas.specs.declared.name.Name.TheVariants.{OfPlace}
 use Rattle.formulas.specs.declared.formula.Place.{Place}
-use Rattle.formulas.specs.declared.formula.Place.TheVariants.{Named, First, Succ', Prev', Least', Most'}
+use Rattle.formulas.specs.declared.formula.Place.TheVariants.{Named}
 use Rattle.translating.specs.Numbers.{Numbering}
 use Rattle.translating.specs.Translation.{some_place}
 
