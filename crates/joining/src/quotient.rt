@@ -10,19 +10,18 @@ use tables::cells::{Class, Table, put};
 // Invariant: the columns before a are written.
 fn quotient_row(
     t: Table,
-    k: u32,
     cls: &[u32],
     from: Class,
     rows: &mut [u32],
     most: usize,
     to: Class,
 )
-    requires table { (k ≤ 12) × (t.width ≡ 2 ^ k) × (from.0 < t.classes) × (to.0 < most) }
+    requires row { (from.0 < t.classes) × (to.0 < most) }
     requires room { (t.classes ≤ length cls.now) × (most * t.width ≤ length rows.old) }
-    ensures leads { (a : ℕ) → a < 2 ^ k → entry rows.new (2 ^ k) to.0 a ≡ slice_index cls.now (moves t.entry from.0 a) }
-    ensures kept { (i a : ℕ) → (i ≢ to.0) → a < 2 ^ k → entry rows.new (2 ^ k) i a ≡ entry rows.old (2 ^ k) i a }
+    ensures leads { (a : ℕ) → a < t.entry.width → entry rows.new t.entry.width to.0 a ≡ slice_index cls.now (moves t.entry from.0 a) }
+    ensures kept { (i a : ℕ) → (i ≢ to.0) → a < t.entry.width → entry rows.new t.entry.width i a ≡ entry rows.old t.entry.width i a }
 {
-    for a in 0..1u32 << k {
+    for a in 0..t.width as u32 {
         let q = t.next(from, a);
         put(rows, most, t.width, to, a, Class(cls[q.0 as usize]));
     }
@@ -32,21 +31,21 @@ fn quotient_row(
 // Invariant: the rows before i are written, and which of their parts accept.
 pub fn quotient(
     t: Table,
-    k: u32,
     cls: &[u32],
     firsts: &[u32],
     n: usize,
     rows: &mut [u32],
     accept: &mut [u32],
 )
-    requires table { (k ≤ 12) × (t.width ≡ 2 ^ k) × (n < 2 ^ 32) }
-    requires parts { (i : ℕ) → i < n → slice_index firsts.now i < t.classes }
-    requires room { (t.classes ≤ length cls.now) × (n ≤ length firsts.now) × (n * t.width ≤ length rows.old) × (n ≤ length accept.old) }
-    ensures { Quotient k t.entry.width t.entry.rows.now t.entry.accept.now cls.now firsts.now n rows.new accept.new }
+    requires few { n < 2 ^ 32 }
+    requires firsts { (i : ℕ) → i < n → slice_index firsts.now i < t.classes }
+    requires parts { (t.classes ≤ length cls.now) × (n ≤ length firsts.now) }
+    requires into { (n * t.width ≤ length rows.old) × (n ≤ length accept.old) }
+    ensures { Quotient t.entry cls.now firsts.now n rows.new accept.new }
 {
     for i in 0..n {
         let first = firsts[i];
-        quotient_row(t, k, cls, Class(first), rows, n, Class(i as u32));
+        quotient_row(t, cls, Class(first), rows, n, Class(i as u32));
         accept[i] = t.accept[first as usize];
     }
 }

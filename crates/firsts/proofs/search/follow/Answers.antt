@@ -8,13 +8,13 @@ returns-then-known c =
     let t = c.args.t in
     record {
       more = omega arith;
-      so_far = seeking_old c.args.k t.classes (entry t.rows.now t.width) c.args.found c.args.queue.now c.args.number.now c.args.prev.now c.args.via.now c.args.i c.args.a c.requires.so_far c.requires.here.0 (omega arith) c.next-q.result.0 c.next-q.ensures.value (c.known.ensures.old c.if-known.true);
+      so_far = seeking_old t.sets t.classes (entry t.rows.now t.width) c.args.found c.args.queue.now c.args.number.now c.args.prev.now c.args.via.now c.args.i c.args.a c.requires.so_far c.requires.here.0 (omega arith) c.next-q.result.0 c.next-q.ensures.value (c.known.ensures.old c.if-known.true);
     }
 
 pub enter-requires : goal.enter-requires
 enter-requires c =
     let t = c.args.t in
-    let room = seeking_room c.args.k t.classes (entry t.rows.now t.width) c.args.found c.args.queue.now c.args.number.now c.args.prev.now c.args.via.now c.args.i c.args.a c.requires.so_far c.requires.here.0 (omega arith) c.next-q.result.0 c.next-q.ensures.value (c.known.ensures.new c.if-known.false) c.next-q.ensures.below in
+    let room = seeking_room t.sets t.classes (entry t.rows.now t.width) c.args.found c.args.queue.now c.args.number.now c.args.prev.now c.args.via.now c.args.i c.args.a c.requires.so_far c.requires.here.0 (omega arith) c.next-q.result.0 c.next-q.ensures.value (c.known.ensures.new c.if-known.false) c.next-q.ensures.below in
     search rules
 
 pub returns : goal.returns
@@ -22,6 +22,6 @@ returns c =
     let t = c.args.t in
     record {
       more = omega arith;
-      so_far = seeking_new c.args.k t.classes (entry t.rows.now t.width) c.args.found c.args.queue.now c.args.number.now c.args.prev.now c.args.via.now c.args.i c.args.a c.requires.so_far c.requires.here.0 (omega arith) c.next-q.result.0 c.next-q.ensures.value (c.known.ensures.new c.if-known.false) c.next-q.ensures.below
+      so_far = seeking_new t.sets t.classes (entry t.rows.now t.width) c.args.found c.args.queue.now c.args.number.now c.args.prev.now c.args.via.now c.args.i c.args.a c.requires.so_far c.requires.here.0 (omega arith) c.next-q.result.0 c.next-q.ensures.value (c.known.ensures.new c.if-known.false) c.next-q.ensures.below
           c.enter.new.queue c.enter.new.number c.enter.new.prev c.enter.new.via c.requires.room c.enter.ensures.queue c.enter.ensures.number c.enter.ensures.prev c.enter.ensures.via;
     }

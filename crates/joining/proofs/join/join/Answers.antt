@@ -1,5 +1,4 @@
 use Rattle.std.proofs.Common.{get_or, sym, arith}
-use Rattle.std.proofs.lemmas.Nat.{one_shl}
 use Rattle.tables.specs.Cells.{accepts, entry}
 use Rattle.joining.proofs.PartsLaws.{parts_few}
 use Rattle.joining.proofs.RoundsLaws.{Done, coarse_start, coarse_copied, refined_column, coarse_column, round_more, done_same, done_alone, done_copied}
@@ -7,32 +6,33 @@ use Rattle.joining.proofs.join.join.Goals as goal
 use Rattle.joining.proofs.join.join.Goals.{then-loop-column-test+then-count-t, else-loop-column-test+then-count-before}
 
 pub refine-init : goal.refine-init
-refine-init c = (c.copy.ensures, coarse_start c.by_acceptance-count.ensures c.args.k (entry c.args.t.rows.now c.args.t.width))
+refine-init c = (c.copy.ensures, coarse_start c.by_acceptance-count.ensures c.args.t.sets (entry c.args.t.rows.now c.args.t.width))
 
 pub renumber-count-requires : goal.renumber-count-requires
 renumber-count-requires c =
-    let w = one_shl c.args.k 32 (omega arith) in
     let cls = c.refine.invariant.1.parts in
     let cur = c.loop-column.invariant.0.parts in
     let a = parts_few cls in
     let b = parts_few cur in
     record {
-      table = (omega arith, omega arith);
-      room = (omega arith, omega arith, omega arith, record { lefts_fit = omega arith; rights_fit = omega arith; index_fits = omega arith });
-      below = λ q h. (omega (arith, cls.below q h), omega (arith, cur.below q h));
+      column = omega arith;
+      parts = (omega arith, omega arith, omega arith);
+      room = record { lefts_fit = omega arith; rights_fit = omega arith; index_fits = omega arith };
+      cls_below = λ q h. omega (arith, cls.below q h);
+      cur_below = λ q h. omega (arith, cur.below q h);
     }
 
 pub loop-column-preserved : goal.loop-column-preserved
 loop-column-preserved c =
-    let w = one_shl c.args.k 32 (omega arith) in (
-      coarse_column c.requires.table.1 c.args.t.below c.refine.invariant.1 c.loop-column.invariant.1 c.renumber-count.ensures (omega arith),
-      refined_column c.requires.table.1 c.args.t.below c.refine.invariant.1 c.loop-column.invariant.1 c.renumber-count.ensures,
+    (
+      coarse_column c.args.t.wide c.args.t.below c.refine.invariant.1 c.loop-column.invariant.1 c.renumber-count.ensures (omega arith),
+      refined_column c.args.t.wide c.args.t.below c.refine.invariant.1 c.loop-column.invariant.1 c.renumber-count.ensures,
     )
 
 -- a round that does not end the rounds has made more parts
 pub refine-smaller : goal.refine-smaller
 refine-smaller c =
-    let more = round_more c.requires.table.1 c.args.t.below c.refine.invariant.1 c.loop-column.invariant.1 c.loop-column.invariant.0 in
+    let more = round_more c.args.t.wide c.args.t.below c.refine.invariant.1 c.loop-column.invariant.1 c.loop-column.invariant.0 in
     let few = parts_few c.loop-column.invariant.0.parts in
     omega arith
 
@@ -43,14 +43,13 @@ refine-preserved c = (λ q h. sym (c.copy-in-refine.ensures q h), coarse_copied 
 pub returns : goal.returns
 returns c =
     let t = c.args.t in
-    let w = one_shl c.args.k 32 (omega arith) in
     let end = c.loop-column-test in
-    let done : Done c.args.k t.classes (entry t.rows.now t.width) (accepts t.accept.now) (λ q. get_or end.cur q 0) (λ i. get_or end.firsts i 0) end.count = elim end.branch [
+    let done : Done c.args.t.sets t.classes (entry t.rows.now t.width) (accepts t.accept.now) (λ q. get_or end.cur q 0) (λ i. get_or end.firsts i 0) end.count = elim end.branch [
       | then-loop-column-test+then-count-t v ↦
-          let d = coarse_column c.requires.table.1 t.below c.refine.invariant.1 c.loop-column.invariant.1 v.renumber-count.ensures (omega arith) in
-          rw (v.cur-is, v.firsts-is, v.count-is) (done_alone c.requires.table.1 t.below d v.if-count-t.true (omega arith))
+          let d = coarse_column c.args.t.wide t.below c.refine.invariant.1 c.loop-column.invariant.1 v.renumber-count.ensures (omega arith) in
+          rw (v.cur-is, v.firsts-is, v.count-is) (done_alone c.args.t.wide t.below d v.if-count-t.true (omega arith))
       | else-loop-column-test+then-count-before v ↦
-          rw (v.cur-is, v.firsts-is, v.count-is) (done_same c.requires.table.1 t.below c.refine.invariant.1 c.loop-column.invariant.1 c.loop-column.invariant.0 (omega arith) v.if-count-before.true (omega arith))
+          rw (v.cur-is, v.firsts-is, v.count-is) (done_same c.args.t.wide t.below c.refine.invariant.1 c.loop-column.invariant.1 c.loop-column.invariant.0 (omega arith) v.if-count-before.true (omega arith))
     ] in
     let copied = done_copied done (omega arith) (λ q. get_or c.copy-2.new.to q 0) c.copy-2.ensures in
     record { joined = copied.joined; parts = copied.parts; few = parts_few copied.parts }

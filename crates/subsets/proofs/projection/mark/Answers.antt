@@ -13,7 +13,7 @@ meets-requires c =
     let P : List ℕ → Type 0 = λ x. Below p.t.classes (has x) in
     let b = subst P (sym (row_part c.args.sets.now p.w c.args.n)) c.requires.inside in
     let l = part_length c.args.sets.now p.w c.args.n c.requires.room.0 in
-    record { inside = λ q e. (let h = b q e in omega (arith, c.requires.posed.completed_fits)); small = omega (arith, c.requires.posed.few, c.requires.posed.small, c.requires.posed.short) }
+    record { inside = λ q e. (let h = b q e in omega (arith, p.completed_fits)); small = omega (arith, p.few, p.small, p.short) }
 
 pub returns : goal.returns
 returns c =

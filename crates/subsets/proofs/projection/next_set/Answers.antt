@@ -9,15 +9,14 @@ use Rattle.subsets.proofs.projection.next_set.Goals as goal
 pub follow-requires : goal.follow-requires
 follow-requires c =
     let p = c.args.p.now in
-    let s = c.requires.posed in
     let e = put_is p.x.0 c.args.a c.with_bit-b.result true c.with_bit-b.ensures.here c.with_bit-b.ensures.others in
-    let b = put_bit_below p.k p.x.0 true c.args.a s.bound (omega (arith, s.wide, c.requires.place.2)) in
+    let b = put_bit_below p.t.sets p.x.0 true c.args.a p.bound (omega (arith, p.t.wide, c.requires.column)) in
     record {
-      order = c.requires.place.0;
+      order = c.requires.order;
       inside = c.requires.inside;
-      columns = (c.requires.place.2, omega (arith, s.wide));
-      room = (c.requires.place.1, s.words);
-      small = (omega (arith, s.few, s.small), omega (arith, s.few, s.small, s.short));
+      columns = (c.requires.column, omega (arith, p.t.wide));
+      room = (c.requires.room, p.words);
+      small = omega (arith, p.few, p.small, p.short);
     }
 
 pub returns : goal.returns

@@ -1,11 +1,11 @@
 use Rattle.std.proofs.Common.{arith}
-use Rattle.subsets.proofs.FoundLaws.{set_below, set_fits, new_interned, new_below, found_again, found_fresh, found_many}
+use Rattle.subsets.proofs.FoundLaws.{set_below, set_fits, new_below, found_again, found_fresh, found_many}
 use Rattle.subsets.proofs.projection.work_out.Goals as goal
 
 pub next_set-requires : goal.next_set-requires
 next_set-requires c =
     let y = c.requires.ready in
-    record { posed = y.posed; inside = set_below y c.args.i y.row; place = (y.row, set_fits y, y.column); without = c.requires.without }
+    record { inside = set_below y c.args.i y.row; order = y.row; room = set_fits y; column = y.column; without = c.requires.without }
 
 pub returns-then-n-p : goal.returns-then-n-p
 returns-then-n-p c = found_many c.requires.ready c.next_set.new.sets c.next_set.ensures.made c.next_set.ensures.kept c.args.rows.now c.in-None.ensures c.if-n-p.true
@@ -15,7 +15,6 @@ mark-requires c =
     let y = c.requires.ready in
     let h = set_fits y in
     record {
-      posed = y.posed;
       inside = new_below y c.next_set.new.sets c.next_set.ensures.made c.next_set.ensures.kept;
       room = (omega arith, omega (arith, y.room.accept_fits, y.found.few, c.if-n-p.false));
     }

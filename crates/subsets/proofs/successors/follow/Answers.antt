@@ -1,4 +1,4 @@
-use Rattle.std.proofs.Common.{◌≡◌, ℕ, ◌+◌, ◌-◌, ◌*◌, ◌<◌, List, sym, ◌∙◌, subst, arith, rules}
+use Rattle.std.proofs.Common.{◌≡◌, ℕ, ◌+◌, ◌-◌, ◌*◌, ◌<◌, List, sym, ◌∙◌, subst, arith}
 use borrow.Rule.Slice.PartMut.{put_mid}
 use Rattle.tables.specs.Cells.{entry}
 use Rattle.tables.proofs.CellsLaws.{row_fits}
@@ -30,7 +30,7 @@ follow_word-requires c =
       inside = followed_bits _ w i to c.requires.order _ c.loop-z.sets c.loop-z.z c.loop-z.invariant (omega arith) c.loop-z-test.true n (omega arith) b;
       columns = c.requires.columns;
       room = omega arith;
-      small = (c.requires.small.0, omega arith);
+      small = omega arith;
     }
 
 pub loop-z-preserved : goal.loop-z-preserved
