@@ -32,7 +32,8 @@ fn enter(
     a: u32,
 )
     requires room { Room (found + 1) queue.old number.old prev.old via.old }
-    requires small { (q.0 < length number.old) × ((i < found) × (found < 2 ^ 32)) }
+    requires class { q.0 < length number.old }
+    requires small { (i < found) × (found < 2 ^ 32) }
     ensures queue { queue.new ≡ slice_set queue.old found q.0 }
     ensures number { number.new ≡ slice_set number.old q.0 found }
     ensures prev { prev.new ≡ slice_set prev.old found i }
@@ -47,7 +48,6 @@ fn enter(
 // Follows column a from the class of number i, and returns how many classes are found then.
 fn follow(
     t: Table,
-    k: u32,
     queue: &mut [u32],
     number: &mut [u32],
     prev: &mut [u32],
@@ -56,12 +56,11 @@ fn follow(
     i: usize,
     a: u32,
 ) -> usize
-    requires table { (t.width ≡ 2 ^ k) × (t.classes < 2 ^ 32) }
     requires room { Room t.classes queue.old number.old prev.old via.old }
     requires here { (i < found) × (a < t.width) }
-    requires so_far { Seeking k t.classes (moves t) found queue.old number.old prev.old via.old i a }
+    requires so_far { Seeking t.sets t.classes (moves t) found queue.old number.old prev.old via.old i a }
     ensures more { found ≤ result }
-    ensures so_far { Seeking k t.entry.classes (moves t.entry) result queue.new number.new prev.new via.new i (a + 1) }
+    ensures so_far { Seeking t.entry.sets t.entry.classes (moves t.entry) result queue.new number.new prev.new via.new i (a + 1) }
 {
     let q = t.next(Class(queue[i]), a);
     if known(queue, number, found, q) {
@@ -74,7 +73,6 @@ fn follow(
 // Follows all columns from the class of number i, the least first, and returns how many classes are found then.
 fn follow_all(
     t: Table,
-    k: u32,
     queue: &mut [u32],
     number: &mut [u32],
     prev: &mut [u32],
@@ -82,16 +80,15 @@ fn follow_all(
     found: usize,
     i: usize,
 ) -> usize
-    requires table { (t.width ≡ 2 ^ k) × ((k ≤ 12) × (t.classes < 2 ^ 32)) }
     requires room { Room t.classes queue.old number.old prev.old via.old }
     requires here { i < found }
-    requires so_far { Seeking k t.classes (moves t) found queue.old number.old prev.old via.old i 0 }
+    requires so_far { Seeking t.sets t.classes (moves t) found queue.old number.old prev.old via.old i 0 }
     ensures more { found ≤ result }
-    ensures so_far { Seeking k t.entry.classes (moves t.entry) result queue.new number.new prev.new via.new (i + 1) 0 }
+    ensures so_far { Seeking t.entry.sets t.entry.classes (moves t.entry) result queue.new number.new prev.new via.new (i + 1) 0 }
 {
     let mut count = found;
-    for a in 0..1u32 << k {
-        count = follow(t, k, queue, number, prev, via, count, i, a);
+    for a in 0..t.width as u32 {
+        count = follow(t, queue, number, prev, via, count, i, a);
     }
     count
 }
@@ -99,22 +96,21 @@ fn follow_all(
 // Finds all classes, and returns how many there are. Memory, in words, for m classes: m each for queue, number, prev and via, which may hold anything.
 pub fn search(
     t: Table,
-    k: u32,
     queue: &mut [u32],
     number: &mut [u32],
     prev: &mut [u32],
     via: &mut [u32],
 ) -> usize
-    requires table { (t.width ≡ 2 ^ k) × ((k ≤ 12) × ((0 < t.classes) × (t.classes < 2 ^ 32))) }
+    requires some { 0 < t.classes }
     requires room { Room t.classes queue.old number.old prev.old via.old }
-    ensures { Searched k t.entry.classes (moves t.entry) result queue.new prev.new via.new }
+    ensures { Searched t.entry.sets t.entry.classes (moves t.entry) result queue.new prev.new via.new }
 {
     queue[0] = 0;
     number[0] = 0;
     let mut found = 1;
     let mut i = 0;
     while i < found {
-        found = follow_all(t, k, queue, number, prev, via, found, i);
+        found = follow_all(t, queue, number, prev, via, found, i);
         i += 1;
     }
     found

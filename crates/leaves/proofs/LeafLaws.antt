@@ -7,7 +7,6 @@ use Rattle.automata.specs.Search.{Explored}
 use Rattle.automata.specs.Worked.{Worked}
 use Rattle.automata.proofs.Working.{worked_leaf, many_leaf}
 use Rattle.tables.specs.Cells.{entry, accepts}
-use Rattle.joining.specs.Quotient.{Quotient}
 
 module _ (a : Kind) (k n W m : ℕ) (at states accepting cls firsts : List ℕ) (o : ℕ) (wide : W ≡ 2 ^ k)
     (e : Explored k (moves (machine a)) (machine a).start m (λ j. get_or at j 0) (entry states (2 ^ k)))
@@ -16,9 +15,9 @@ module _ (a : Kind) (k n W m : ℕ) (at states accepting cls firsts : List ℕ) 
   joined_wide : Joined k m (entry states (2 ^ k)) (accepts accepting) (λ q. get_or cls q 0) (λ i. get_or firsts i 0) o
   joined_wide = subst (λ w. Joined k m (entry states w) (accepts accepting) (λ q. get_or cls q 0) (λ i. get_or firsts i 0) o) wide j
 
-  pub leaf_worked : (rows accept : List ℕ) → Quotient k W states accepting cls firsts o rows accept → o ≤ n → Worked k n (claim a) o (entry rows (2 ^ k)) (accepts accept)
-  leaf_worked rows accept q h = worked_leaf k n a m (λ j. get_or at j 0) (entry states (2 ^ k)) (accepts accepting) e same (λ q. get_or cls q 0) (λ i. get_or firsts i 0) o joined_wide (entry rows (2 ^ k)) (accepts accept)
-      record { steps = subst (λ w. (i b : ℕ) → i < o → b < 2 ^ k → entry rows (2 ^ k) i b ≡ get_or cls (entry states w (get_or firsts i 0) b) 0) wide q.leads; accepts = q.ends } h
+  pub leaf_worked : (rows accept : List ℕ) → ((i b : ℕ) → i < o → b < W → entry rows W i b ≡ get_or cls (entry states W (get_or firsts i 0) b) 0) → ((i : ℕ) → i < o → accepts accept i ≡ accepts accepting (get_or firsts i 0)) → o ≤ n → Worked k n (claim a) o (entry rows (2 ^ k)) (accepts accept)
+  leaf_worked rows accept leads ends h = worked_leaf k n a m (λ j. get_or at j 0) (entry states (2 ^ k)) (accepts accepting) e same (λ q. get_or cls q 0) (λ i. get_or firsts i 0) o joined_wide (entry rows (2 ^ k)) (accepts accept)
+      record { steps = subst (λ w. (i b : ℕ) → i < o → b < w → entry rows w i b ≡ get_or cls (entry states w (get_or firsts i 0) b) 0) wide leads; accepts = ends } h
 
   pub leaf_many : n < o → Fits k n (claim a) → ⊥
   leaf_many h = many_leaf k n a m (λ j. get_or at j 0) (entry states (2 ^ k)) (accepts accepting) e same (λ q. get_or cls q 0) (λ i. get_or firsts i 0) o joined_wide h

@@ -53,12 +53,13 @@ pub fn leaf(
         rows: states,
         accept: accepting,
         classes: count,
+        sets: k,
         width: 1usize << k,
     };
-    let n = join(t, k, cls, firsts, cur, lefts, rights, index);
+    let n = join(t, cls, firsts, cur, lefts, rights, index);
     if n > most {
         return None;
     }
-    quotient(t, k, cls, firsts, n, rows, accept);
+    quotient(t, cls, firsts, n, rows, accept);
     Some(n)
 }

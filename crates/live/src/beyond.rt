@@ -34,7 +34,6 @@ fn clear(words: &mut [u32], n: usize)
 
 // Lists, for each class, the classes that go to it by column a. Classes are put in rising, each before those that its list has.
 fn comers(t: Table, a: u32, heads: &mut [u32], links: &mut [u32])
-    requires few { t.classes < 2 ^ 32 }
     requires column { a < t.width }
     requires room { (t.classes ≤ length heads.old) × (t.classes ≤ length links.old) }
     ensures { Comers t.entry.classes t.entry.classes (by_column t.entry.rows.now t.entry.width a) heads.new links.new }
@@ -88,7 +87,6 @@ fn mark_comers(
 
 // Marks the accepting classes, in memory with any contents, and puts them into the queue. The queue's tail.
 fn mark_accepting(t: Table, marks: &mut [u32], queue: &mut [u32]) -> usize
-    requires few { t.classes < 2 ^ 32 }
     requires room { (t.classes ≤ length marks.old) × (t.classes ≤ length queue.old) }
     ensures queued { Queued t.entry.classes marks.new queue.new result }
     ensures accepting { (q : ℕ) → q < t.entry.classes → accepts marks.new q ≡ accepting t.entry q }
@@ -104,10 +102,10 @@ fn mark_accepting(t: Table, marks: &mut [u32], queue: &mut [u32]) -> usize
 }
 
 // The column in which set x alone has the place.
-fn lone(x: Set, k: u32) -> u32
-    requires { (x.0 < k) × (k ≤ 12) }
+fn lone(x: Set, sets: u32) -> u32
+    requires { (x.0 < sets) × (sets ≤ 12) }
     ensures value { result ≡ put_bit x.0 true 0 }
-    ensures below { result < 2 ^ k }
+    ensures below { result < 2 ^ sets }
 {
     with_bit(0, x)
 }
@@ -140,7 +138,6 @@ fn mark_behind(
 // Marks in `completed`, by 1, each class that is completed by columns in which at most set x has a place; those that are not have other numbers.
 pub fn beyond(
     t: Table,
-    k: u32,
     x: Set,
     completed: &mut [u32],
     heads0: &mut [u32],
@@ -149,15 +146,13 @@ pub fn beyond(
     links1: &mut [u32],
     queue: &mut [u32],
 )
-    requires wide { (t.width ≡ 2 ^ k) × (k ≤ 12) }
-    requires set { x.0 < k }
-    requires few { t.classes < 2 ^ 32 }
+    requires set { x.0 < t.sets }
     requires room { (t.classes ≤ length completed.old) × (t.classes ≤ length queue.old) }
     requires room0 { (t.classes ≤ length heads0.old) × (t.classes ≤ length links0.old) }
     requires room1 { (t.classes ≤ length heads1.old) × (t.classes ≤ length links1.old) }
     ensures { (q : ℕ) → q < t.entry.classes → (accepts completed.new q ≡ true) ↔ Completes x.0 (moves t.entry) (accepting t.entry) q }
 {
-    let with_x = lone(x, k);
+    let with_x = lone(x, t.sets);
     comers(t, 0, heads0, links0);
     comers(t, with_x, heads1, links1);
     let lists0 = Lists {

@@ -18,7 +18,7 @@ pub pairing_start : {f : Factors} {rows lefts rights index : List ℕ} → 0 < f
 pairing_start {f} {rows} {lefts} {rights} h known e = record {
   few = h;
   numbered = known;
-  so_far = searching_start f.k (steps f) (pair 0 0) f.left.width f.wide.0 (pair_at lefts rights) rows e;
+  so_far = searching_start f.left.sets (steps f) (pair 0 0) f.left.width f.left.wide (pair_at lefts rights) rows e;
 }
 
 -- past its last row the search is over
@@ -27,8 +27,8 @@ pairing_end {f} {rows} {lefts} {rights} {count = count} s e = record {
   few = s.few;
   left = s.numbered.left;
   right = s.numbered.right;
-  explored = searching_end f.k (steps f) (pair 0 0) f.left.width f.wide.0 count (pair_at lefts rights) rows
-      (subst (λ z. Searching f.k (steps f) (pair 0 0) count (pair_at lefts rights) rows f.left.width z 0) e s.so_far);
+  explored = searching_end f.left.sets (steps f) (pair 0 0) f.left.width f.left.wide count (pair_at lefts rights) rows
+      (subst (λ z. Searching f.left.sets (steps f) (pair 0 0) count (pair_at lefts rights) rows f.left.width z 0) e s.so_far);
 }
 
 module _ {f : Factors} {rows lefts rights index : List ℕ} {count i p q a : ℕ} (s : InRow f rows lefts rights index count i p q a) where
@@ -37,8 +37,8 @@ module _ {f : Factors} {rows lefts rights index : List ℕ} {count i p q a : ℕ
   row_done e = record {
     few = s.so_far.few;
     numbered = s.so_far.numbered;
-    so_far = rw add-one (searching_row f.k (steps f) (pair 0 0) f.left.width f.wide.0 count (pair_at lefts rights) rows i
-        (subst (Searching f.k (steps f) (pair 0 0) count (pair_at lefts rights) rows f.left.width i) e s.so_far.so_far));
+    so_far = rw add-one (searching_row f.left.sets (steps f) (pair 0 0) f.left.width f.left.wide count (pair_at lefts rights) rows i
+        (subst (Searching f.left.sets (steps f) (pair 0 0) count (pair_at lefts rights) rows f.left.width i) e s.so_far.so_far));
   }
 
   module _ (room : Room f rows lefts rights index) (ha : a < f.left.width) {x y : ℕ} (ex : x ≡ moves f.left p a) (ey : y ≡ moves f.right q a) where
@@ -54,7 +54,7 @@ module _ {f : Factors} {rows lefts rights index : List ℕ} {count i p q a : ℕ
       so_far = record {
         few = s.so_far.few;
         numbered = s.so_far.numbered;
-        so_far = rw (w, add-one) (searching_old f.k (steps f) (pair 0 0) f.left.width f.wide.0 f.most count (pair_at lefts rights) rows i a s.so_far.so_far s.row ha s.so_far.few room.rows_fit
+        so_far = rw (w, add-one) (searching_old f.left.sets (steps f) (pair 0 0) f.left.width f.left.wide f.most count (pair_at lefts rights) rows i a s.so_far.so_far s.row ha s.so_far.few room.rows_fit
             to h.0 (h.1 ∙ leads));
       };
     }
@@ -62,7 +62,7 @@ module _ {f : Factors} {rows lefts rights index : List ℕ} {count i p q a : ℕ
     module _ (fresh : NoNumber lefts rights count x y) where
       -- or none, and as many have one as may
       pub row_many : count ≡ f.most → TooManyPairs f
-      row_many e = searching_many f.k (steps f) (pair 0 0) f.left.width f.wide.0 f.most count (pair_at lefts rights) rows i a s.so_far.so_far s.row ha s.so_far.few room.rows_fit
+      row_many e = searching_many f.left.sets (steps f) (pair 0 0) f.left.width f.left.wide f.most count (pair_at lefts rights) rows i a s.so_far.so_far s.row ha s.so_far.few room.rows_fit
           (upd (pair_at lefts rights) count (pair x y)) (λ j h g. fresh j h (g ∙ sym leads)) (upd_here (pair_at lefts rights) count (pair x y) ∙ leads) (λ j h. upd_else (pair_at lefts rights) count (pair x y) j (omega arith)) e
 
       -- or none, and it is given the next one
@@ -73,7 +73,7 @@ module _ {f : Factors} {rows lefts rights index : List ℕ} {count i p q a : ℕ
         so_far = record {
           few = omega (arith, s.so_far.few);
           numbered = known;
-          so_far = rw (w, add-one count, add-one a) (searching_new f.k (steps f) (pair 0 0) f.left.width f.wide.0 f.most count (pair_at lefts rights) rows i a s.so_far.so_far s.row ha s.so_far.few room.rows_fit
+          so_far = rw (w, add-one count, add-one a) (searching_new f.left.sets (steps f) (pair 0 0) f.left.width f.left.wide f.most count (pair_at lefts rights) rows i a s.so_far.so_far s.row ha s.so_far.few room.rows_fit
               (pair_at lefts' rights') (λ j h g. fresh j h (g ∙ sym leads)) (new ∙ leads) kept);
         };
       }

@@ -23,7 +23,7 @@ pub record Room (f : Factors) (rows lefts rights index : List ℕ) : Type 0 wher
 pub record Pairing (f : Factors) (rows lefts rights index : List ℕ) (count i a : ℕ) : Type 0 where
   pub few : count ≤ f.most
   pub numbered : Numbered f.left.classes f.right.classes lefts rights index count
-  pub so_far : Searching f.k (steps f) (pair 0 0) count (pair_at lefts rights) rows f.left.width i a
+  pub so_far : Searching f.left.sets (steps f) (pair 0 0) count (pair_at lefts rights) rows f.left.width i a
 
 -- the same within a row, that of the pair (p, q)
 pub record InRow (f : Factors) (rows lefts rights index : List ℕ) (count i p q a : ℕ) : Type 0 where
@@ -36,8 +36,8 @@ pub record Found (f : Factors) (rows lefts rights : List ℕ) (m : ℕ) : Type 0
   pub few : m ≤ f.most
   pub left : (i : ℕ) → i < m → slice_index lefts i < f.left.classes
   pub right : (i : ℕ) → i < m → slice_index rights i < f.right.classes
-  pub explored : Explored f.k (steps f) (pair 0 0) m (pair_at lefts rights) (entry rows f.left.width)
+  pub explored : Explored f.left.sets (steps f) (pair 0 0) m (pair_at lefts rights) (entry rows f.left.width)
 
 -- more pairs are reached than there may be
 abbrev pub TooManyPairs : Factors → Type 0
-TooManyPairs f = TooMany f.k (steps f) (pair 0 0) f.most
+TooManyPairs f = TooMany f.left.sets (steps f) (pair 0 0) f.most

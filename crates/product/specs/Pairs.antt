@@ -12,7 +12,7 @@ abbrev pub pair_moves : Table → Table → Pair → ℕ → Pair
 pair_moves a b = step_pair (moves a) (moves b)
 
 -- the product of the tables a and b, with m classes, stands in `rows` and `accept`: class i is the pair with number i
-pub record Paired (k most : ℕ) (a b : Table) (rows accept lefts rights : List ℕ) (m : ℕ) : Type 0 where
+pub record Paired (most : ℕ) (a b : Table) (rows accept lefts rights : List ℕ) (m : ℕ) : Type 0 where
   pub few : m ≤ most
-  pub explored : Explored k (pair_moves a b) (pair 0 0) m (pair_at lefts rights) (entry rows a.width)
+  pub explored : Explored a.sets (pair_moves a b) (pair 0 0) m (pair_at lefts rights) (entry rows a.width)
   pub accepted : (i : ℕ) → i < m → accepts accept i ≡ (accepting a (slice_index lefts i) && accepting b (slice_index rights i))

@@ -91,7 +91,8 @@ fn search(
     index: &mut [u32],
 ) -> Option<usize>
     requires room { Room f.now rows.old lefts.old rights.old index.old }
-    requires starts { (0 < f.now.left.classes) × ((0 < f.now.right.classes) × (0 < f.now.most)) }
+    requires starts { (0 < f.now.left.classes) × (0 < f.now.right.classes) }
+    requires some { 0 < f.now.most }
     ensures { MatchOption result (TooManyPairs f.now) (λ m. Found f.now rows.new lefts.new rights.new m) }
 {
     let sizes = Sizes {
@@ -112,7 +113,8 @@ fn search(
 fn accept_both(f: &Factors, lefts: &[u32], rights: &[u32], count: usize, accept: &mut [u32])
     requires left { (i : ℕ) → i < count → slice_index lefts.now i < f.now.left.classes }
     requires right { (i : ℕ) → i < count → slice_index rights.now i < f.now.right.classes }
-    requires room { (count ≤ length lefts.now) × ((count ≤ length rights.now) × (count ≤ length accept.old)) }
+    requires pairs { (count ≤ length lefts.now) × (count ≤ length rights.now) }
+    requires room { count ≤ length accept.old }
     ensures { (i : ℕ) → i < count → accepts accept.new i ≡ (accepting f.now.left (slice_index lefts.now i) && accepting f.now.right (slice_index rights.now i)) }
 {
     for i in 0..count {
@@ -121,14 +123,13 @@ fn accept_both(f: &Factors, lefts: &[u32], rights: &[u32], count: usize, accept:
     }
 }
 
-// The product of the tables a and b, over the columns of k sets: how many classes it has, or that they are more than `most`.
+// The product of the tables a and b, over the columns of the same sets: how many classes it has, or that they are more than `most`.
 // Its rows are written into `rows` and what accepts into `accept`. Beside these it takes 2 * most + a.classes * b.classes words:
 // `lefts` and `rights`, in which the pair of each class stands at the end, `most` each, and `index`. What any of them held before
 // does not matter.
 pub fn product(
     a: Table,
     b: Table,
-    k: u32,
     most: usize,
     rows: &mut [u32],
     accept: &mut [u32],
@@ -136,16 +137,17 @@ pub fn product(
     rights: &mut [u32],
     index: &mut [u32],
 ) -> Option<usize>
-    requires wide { (a.width ≡ 2 ^ k) × ((b.width ≡ 2 ^ k) × (k ≤ 12)) }
+    requires same_sets { a.sets ≡ b.sets }
     requires starts { (0 < a.classes) × (0 < b.classes) }
     requires most { (0 < most) × (most < 2 ^ 32) }
-    requires room { (most * 2 ^ k ≤ length rows.old) × ((most ≤ length accept.old) × ((most ≤ length lefts.old) × ((most ≤ length rights.old) × (a.classes * b.classes ≤ length index.old)))) }
-    ensures { MatchOption result (TooMany k (pair_moves a.entry b.entry) (pair 0 0) most) (λ m. Paired k most a.entry b.entry rows.new accept.new lefts.new rights.new m) }
+    requires table { (most * a.width ≤ length rows.old) × (most ≤ length accept.old) }
+    requires pairs { (most ≤ length lefts.old) × (most ≤ length rights.old) }
+    requires index { a.classes * b.classes ≤ length index.old }
+    ensures { MatchOption result (TooMany a.entry.sets (pair_moves a.entry b.entry) (pair 0 0) most) (Paired most a.entry b.entry rows.new accept.new lefts.new rights.new) }
 {
     let f = Factors {
         left: a,
         right: b,
-        k,
         most,
     };
     let count = search(&f, rows, lefts, rights, index)?;

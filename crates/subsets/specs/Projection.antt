@@ -1,11 +1,12 @@
 -- A subset construction on its way: the sets found so far, their rows of the table, and which of them accept.
-use Rattle.std.specs.Prelude.{◌≡◌, ℕ, ◌+◌, ◌*◌, ◌/◌, ◌^◌, ◌<◌, ◌≤◌, Bool, List, length}
+use Rattle.std.specs.Prelude.{◌≡◌, ℕ, ◌+◌, ◌*◌, ◌/◌, ◌<◌, ◌≤◌, Bool, List, length}
 use Rattle.automata.specs.Subsets.{step_set, start_set, accepts_set}
 use Rattle.automata.specs.Search.{Explored, TooMany}
 use Rattle.tables.specs.Cells.{entry, accepts}
 use Rattle.tables.specs.View.{moves}
+use Rattle.tables.specs.declared.cells.Table.{Table}
 use Rattle.tables.specs.Search.{Searching}
-use Rattle.subsets.specs.declared.projection.Projection.{Projection}
+use Rattle.subsets.specs.declared.part.Projection.{Projection}
 use Rattle.bitsets.specs.Bitrows.{member}
 use Rattle.live.specs.Dead.{lives}
 use Rattle.bitsets.specs.Intern.{Interned}
@@ -20,18 +21,6 @@ start_of p = start_set (lives p.t.classes p.dead)
 abbrev pub says_of : Projection → (ℕ → Bool) → Bool
 says_of p = accepts_set p.t.classes (accepts p.completed.now)
 
--- the sizes fit each other
-pub record Posed (p : Projection) : Type 0 where
-  pub wide : p.t.width ≡ 2 ^ p.k
-  pub narrow : p.k ≤ 12
-  pub bound : p.x.0 < p.k
-  pub some : 0 < p.t.classes
-  pub few : p.t.classes ≤ p.most
-  pub small : p.most < 2 ^ 32
-  pub words : p.t.classes ≤ 32 * p.w
-  pub short : p.w ≤ p.t.classes
-  pub completed_fits : p.t.classes ≤ length p.completed.now
-
 -- the memory has room for one set more than may be found
 pub record Room (p : Projection) (rows accept sets heads links buckets : List ℕ) : Type 0 where
   pub rows_fit : p.most * p.t.width ≤ length rows
@@ -44,13 +33,12 @@ pub record Room (p : Projection) (rows accept sets heads links buckets : List �
 -- n sets are found, and the table is written up to row i, column a
 pub record Found (p : Projection) (rows accept sets heads links buckets : List ℕ) (n i a : ℕ) : Type 0 where
   pub few : n ≤ p.most
-  pub searching : Searching p.k (step_of p) (start_of p) n (member sets p.w) rows p.t.width i a
+  pub searching : Searching p.t.sets (step_of p) (start_of p) n (member sets p.w) rows p.t.width i a
   pub interned : Interned sets p.w n heads links buckets
   pub accepted : (j : ℕ) → j < n → accepts accept j ≡ says_of p (member sets p.w j)
 
 -- row i is to be written at column a
 pub record Ready (p : Projection) (rows accept sets heads links buckets : List ℕ) (n i a : ℕ) : Type 0 where
-  pub posed : Posed p
   pub room : Room p rows accept sets heads links buckets
   pub found : Found p rows accept sets heads links buckets n i a
   pub row : i < n
@@ -63,14 +51,14 @@ pub record Further (p : Projection) (rows accept sets heads links buckets : List
 
 -- more sets are reached than may be found
 abbrev pub Excess : Projection → Type 0
-Excess p = TooMany p.k (step_of p) (start_of p) p.most
+Excess p = TooMany p.t.sets (step_of p) (start_of p) p.most
 
 -- the words of a row with a bit for each of m classes
 abbrev pub words : ℕ → ℕ
 words m = (m + 31) / 32
 
 -- the search is over: o sets were found, no two of them the same; the table is theirs, and a set accepts if one of its classes is completed
-pub record Projected (k m : ℕ) (δ : ℕ → ℕ → ℕ) (dead x : ℕ) (completed : ℕ → Bool) (most : ℕ) (rows accept sets : List ℕ) (o : ℕ) : Type 0 where
+pub record Projected (t : Table) (dead x : ℕ) (completed : ℕ → Bool) (most : ℕ) (rows accept sets : List ℕ) (o : ℕ) : Type 0 where
   pub few : o ≤ most
-  pub explored : Explored k (step_set m δ (lives m dead) x) (start_set (lives m dead)) o (member sets (words m)) (entry rows (2 ^ k))
-  pub accepted : (i : ℕ) → i < o → accepts accept i ≡ accepts_set m completed (member sets (words m) i)
+  pub explored : Explored t.sets (step_set t.classes (moves t) (lives t.classes dead) x) (start_set (lives t.classes dead)) o (member sets (words t.classes)) (entry rows t.width)
+  pub accepted : (i : ℕ) → i < o → accepts accept i ≡ accepts_set t.classes completed (member sets (words t.classes) i)

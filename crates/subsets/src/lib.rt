@@ -1,5 +1,6 @@
 // The subset construction: the table of a claim under some, from that of its part.
 #![tactic(auto)]
 
+mod part;
 pub mod projection;
 mod successors;

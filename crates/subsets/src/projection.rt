@@ -8,29 +8,17 @@ ghost use Rattle.tables.specs.Cells.{entry, put_entry, accepts};
 ghost use Rattle.tables.specs.View.{moves};
 ghost use Rattle.bitsets.specs.Bitrows.{row_at, member, Below};
 ghost use Rattle.live.specs.Dead.{lives};
-ghost use Rattle.subsets.specs.Projection.{step_of, start_of, says_of, Posed, Room, Found, Ready, Further, Excess, words, Projected};
+ghost use Rattle.subsets.specs.Projection.{step_of, start_of, says_of, Room, Found, Ready, Further, Excess, words, Projected};
 
+use crate::part::Projection;
 use crate::successors::{follow, put_live};
 use bitsets::bitrows::{clear, meets};
 use bitsets::intern::intern;
 use tables::cells::{Class, Table, get, put};
 use words::bits::{Set, has_bit, with_bit, without_bit};
 
-// What is projected: a table of which `dead` is the dead class, the bit x, the classes that accept once x is completed, and how many sets of w words may be found.
-#[derive(Clone, Copy)]
-struct Projection<'a, 'b> {
-    t: Table<'a>,
-    k: u32,
-    x: Set,
-    dead: usize,
-    completed: &'b [u32],
-    most: usize,
-    w: usize,
-}
-
 // Notes whether set n accepts: whether one of its classes is completed.
 fn mark(p: &Projection, sets: &[u32], accept: &mut [u32], n: usize)
-    requires posed { Posed p.now }
     requires inside { Below p.now.t.classes (member sets.now p.now.w n) }
     requires room { (n * p.now.w + p.now.w ≤ length sets.now) × (n < length accept.old) }
     ensures told { accepts accept.new n ≡ says_of p.now (member sets.now p.now.w n) }
@@ -46,7 +34,6 @@ fn mark(p: &Projection, sets: &[u32], accept: &mut [u32], n: usize)
 
 // Row i at a column with bit x: leads where it leads without, and that is written already.
 fn copy(p: &Projection, rows: &mut [u32], i: usize, a: u32)
-    requires posed { Posed p.now }
     requires room { p.now.most * p.now.t.width ≤ length rows.old }
     requires place { (i < p.now.most) × (a < p.now.t.width) }
     ensures { rows.new ≡ put_entry rows.old p.now.t.width i a (entry rows.old p.now.t.width i (put_bit p.now.x.0 false a)) }
@@ -63,9 +50,10 @@ fn copy(p: &Projection, rows: &mut [u32], i: usize, a: u32)
 
 // Writes the set that follows set i at column a, a column without bit x, into row n.
 fn next_set(p: &Projection, sets: &mut [u32], n: usize, i: usize, a: u32)
-    requires posed { Posed p.now }
     requires inside { Below p.now.t.classes (member sets.old p.now.w i) }
-    requires place { (i < n) × (n * p.now.w + p.now.w ≤ length sets.old) × (a < p.now.t.width) }
+    requires order { i < n }
+    requires room { n * p.now.w + p.now.w ≤ length sets.old }
+    requires column { a < p.now.t.width }
     requires without { bit p.now.x.0 a ≡ false }
     ensures made { member sets.new p.now.w n ≡ step_of p.now (member sets.old p.now.w i) a }
     ensures kept { (j : ℕ) → j < n → row_at sets.new p.now.w j ≡ row_at sets.old p.now.w j }
@@ -158,7 +146,6 @@ fn row(
 
 // Writes the start, the set of class 0 if that is live, into row 0.
 fn start_set(p: &Projection, sets: &mut [u32])
-    requires posed { Posed p.now }
     requires room { p.now.w ≤ length sets.old }
     ensures { member sets.new p.now.w 0 ≡ start_of p.now }
 {
@@ -176,8 +163,9 @@ fn begin(
     links: &mut [u32],
     buckets: &mut [u32],
 )
-    requires posed { Posed p.now }
-    requires room { (0 < length accept.old) × (p.now.w ≤ length sets.old) × (0 < length heads.old) × (0 < length links.old) × (0 < length buckets.old) }
+    requires accept { 0 < length accept.old }
+    requires sets { p.now.w ≤ length sets.old }
+    requires chains { (0 < length heads.old) × (0 < length links.old) × (0 < length buckets.old) }
     ensures { (rows : List ℕ) → Found p.now rows accept.new sets.new heads.new links.new buckets.new 1 0 0 }
 {
     start_set(p, sets);
@@ -195,7 +183,6 @@ fn search(
     links: &mut [u32],
     buckets: &mut [u32],
 ) -> Option<usize>
-    requires posed { Posed p.now }
     requires room { Room p.now rows.old accept.old sets.old heads.old links.old buckets.old }
     ensures { MatchOption result (Excess p.now) (λ n. Found p.now rows.new accept.new sets.new heads.new links.new buckets.new n n 0) }
 {
@@ -217,7 +204,6 @@ fn search(
 // Scratch, in words, for n = most and m classes of the part: (n + 1) * ceil(m / 32) for sets, n + 1 each for links and buckets, and one or more for heads, better n + 1. Any of them may hold anything.
 pub fn subsets(
     t: Table,
-    k: u32,
     x: Set,
     dead: usize,
     completed: &[u32],
@@ -229,16 +215,17 @@ pub fn subsets(
     links: &mut [u32],
     buckets: &mut [u32],
 ) -> Option<usize>
-    requires columns { (t.width ≡ 2 ^ k) × (k ≤ 12) × (x.0 < k) }
-    requires classes { (0 < t.classes) × (t.classes ≤ most) × (most < 2 ^ 32) × (t.classes ≤ length completed.now) }
-    requires table { (most * 2 ^ k ≤ length rows.old) × (most ≤ length accept.old) × ((most + 1) * words t.classes ≤ length sets.old) }
+    requires set { x.0 < t.sets }
+    requires classes { (0 < t.classes) × (t.classes ≤ length completed.now) }
+    requires most { (t.classes ≤ most) × (most < 2 ^ 32) }
+    requires table { (most * t.width ≤ length rows.old) × (most ≤ length accept.old) }
+    requires sets { (most + 1) * words t.classes ≤ length sets.old }
     requires chains { (0 < length heads.old) × (most < length links.old) × (most < length buckets.old) }
-    ensures { MatchOption result (TooMany k (step_set t.entry.classes (moves t.entry) (lives t.entry.classes dead) x.0) (start_set (lives t.entry.classes dead)) most) (Projected k t.entry.classes (moves t.entry) dead x.0 (accepts completed.now) most rows.new accept.new sets.new) }
+    ensures { MatchOption result (TooMany t.entry.sets (step_set t.entry.classes (moves t.entry) (lives t.entry.classes dead) x.0) (start_set (lives t.entry.classes dead)) most) (Projected t.entry dead x.0 (accepts completed.now) most rows.new accept.new sets.new) }
 {
     let w = (t.classes + 31) / 32;
     let p = Projection {
         t,
-        k,
         x,
         dead,
         completed,

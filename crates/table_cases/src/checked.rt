@@ -44,6 +44,7 @@ pub fn is_table(rows: &[u32], accept: &[u32], classes: usize, k: u32) -> bool
 pub fn table<'a>(rows: &'a [u32], accept: &'a [u32], classes: usize, k: u32) -> Table<'a>
     requires { Written rows.now accept.now classes k }
     ensures classes { result.classes ≡ classes }
+    ensures sets { result.sets ≡ k }
     ensures width { result.width ≡ 2 ^ k }
     ensures rows { result.rows.now ≡ rows.now }
     ensures accept { result.accept.now ≡ accept.now }
@@ -52,6 +53,7 @@ pub fn table<'a>(rows: &'a [u32], accept: &'a [u32], classes: usize, k: u32) -> 
         rows,
         accept,
         classes,
+        sets: k,
         width: 1usize << k,
     }
 }

@@ -33,7 +33,6 @@ pub fn product_case(rt: &HostRuntime, most: usize) -> io::Result<()>
     match product(
         a,
         b,
-        1,
         most,
         &mut rows,
         &mut accept,

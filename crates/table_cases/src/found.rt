@@ -21,7 +21,7 @@ fn word_case(
     found: usize,
     wanted: bool,
 ) -> io::Result<()>
-    requires searched { Searched 1 t.classes (moves t) found queue.now prev.now via.now }
+    requires searched { Searched t.sets t.classes (moves t) found queue.now prev.now via.now }
     requires room { (found ≤ length queue.now) × ((found ≤ length prev.now) × (found ≤ length via.now)) }
 {
     let Some(j) = first(t, queue, found, wanted) else {
@@ -54,7 +54,7 @@ pub fn search_case<'a>(
     let t = table(rows, accept, classes, 1);
     let (mut queue, mut number) = ([7u32; 64], [7u32; 64]);
     let (mut prev, mut via) = ([7u32; 64], [7u32; 64]);
-    let found = search(t, 1, &mut queue, &mut number, &mut prev, &mut via);
+    let found = search(t, &mut queue, &mut number, &mut prev, &mut via);
     print!(rt; "search:")?;
     tell_numbers(rt, &queue, found)?;
     println!(rt; "")?;

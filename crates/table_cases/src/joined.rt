@@ -16,7 +16,6 @@ pub fn join_case(rt: &HostRuntime) -> io::Result<()> {
     let (mut lefts, mut rights, mut index) = ([7u32; 64], [7u32; 64], [7u32; 64]);
     let n = join(
         t,
-        1,
         &mut cls,
         &mut firsts,
         &mut cur,
@@ -30,7 +29,7 @@ pub fn join_case(rt: &HostRuntime) -> io::Result<()> {
     tell_numbers(rt, &firsts, n)?;
     println!(rt; "")?;
     let (mut new_rows, mut new_accept) = ([7u32; 64], [7u32; 64]);
-    quotient(t, 1, &cls, &firsts, n, &mut new_rows, &mut new_accept);
+    quotient(t, &cls, &firsts, n, &mut new_rows, &mut new_accept);
     print!(rt; "quotient: ")?;
     tell_table(rt, &new_rows, &new_accept, n)
 }

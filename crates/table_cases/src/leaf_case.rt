@@ -41,8 +41,9 @@ pub fn leaf_case(rt: &HostRuntime, most: usize) -> io::Result<()>
         rows: &rows,
         accept: &accept,
         classes,
+        sets: 1,
         width: 2,
     };
-    let q = dead(t, 1);
+    let q = dead(t);
     println!(rt; "dead: {q}")
 }

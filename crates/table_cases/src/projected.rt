@@ -26,7 +26,6 @@ pub fn beyond_case<'a>(
     let (mut heads1, mut links1) = ([7u32; 64], [7u32; 64]);
     beyond(
         t,
-        1,
         Set(0),
         &mut completed,
         &mut heads0,
@@ -62,7 +61,6 @@ pub fn subsets_case<'a>(
     print!(rt; "subsets, at most {most}: ")?;
     match subsets(
         t,
-        1,
         Set(0),
         dead,
         completed,

@@ -3,25 +3,19 @@ use Rattle.tables.specs.Cells.{entry}
 use Rattle.firsts.proofs.SearchLaws.{seeking_old, seeking_room, seeking_new}
 use Rattle.firsts.proofs.search.follow.Goals as goal
 
-pub returns-then-known : goal.returns-then-known
-returns-then-known c =
+pub returns-then-known-clause-so_far : goal.returns-then-known-clause-so_far
+returns-then-known-clause-so_far c =
     let t = c.args.t in
-    record {
-      more = omega arith;
-      so_far = seeking_old c.args.k t.classes (entry t.rows.now t.width) c.args.found c.args.queue.now c.args.number.now c.args.prev.now c.args.via.now c.args.i c.args.a c.requires.so_far c.requires.here.0 (omega arith) c.next-q.result.0 c.next-q.ensures.value (c.known.ensures.old c.if-known.true);
-    }
+    seeking_old t.sets t.classes (entry t.rows.now t.width) c.args.found c.args.queue.now c.args.number.now c.args.prev.now c.args.via.now c.args.i c.args.a c.requires.so_far c.requires.here.0 (omega arith) c.next-q.result.0 c.next-q.ensures.value (c.known.ensures.old c.if-known.true)
 
-pub enter-requires : goal.enter-requires
-enter-requires c =
+pub enter-requires-clause-room : goal.enter-requires-clause-room
+enter-requires-clause-room c =
     let t = c.args.t in
-    let room = seeking_room c.args.k t.classes (entry t.rows.now t.width) c.args.found c.args.queue.now c.args.number.now c.args.prev.now c.args.via.now c.args.i c.args.a c.requires.so_far c.requires.here.0 (omega arith) c.next-q.result.0 c.next-q.ensures.value (c.known.ensures.new c.if-known.false) c.next-q.ensures.below in
+    let room = seeking_room t.sets t.classes (entry t.rows.now t.width) c.args.found c.args.queue.now c.args.number.now c.args.prev.now c.args.via.now c.args.i c.args.a c.requires.so_far c.requires.here.0 (omega arith) c.next-q.result.0 c.next-q.ensures.value (c.known.ensures.new c.if-known.false) c.next-q.ensures.below in
     search rules
 
-pub returns : goal.returns
-returns c =
+pub returns-clause-so_far : goal.returns-clause-so_far
+returns-clause-so_far c =
     let t = c.args.t in
-    record {
-      more = omega arith;
-      so_far = seeking_new c.args.k t.classes (entry t.rows.now t.width) c.args.found c.args.queue.now c.args.number.now c.args.prev.now c.args.via.now c.args.i c.args.a c.requires.so_far c.requires.here.0 (omega arith) c.next-q.result.0 c.next-q.ensures.value (c.known.ensures.new c.if-known.false) c.next-q.ensures.below
-          c.enter.new.queue c.enter.new.number c.enter.new.prev c.enter.new.via c.requires.room c.enter.ensures.queue c.enter.ensures.number c.enter.ensures.prev c.enter.ensures.via;
-    }
+    seeking_new t.sets t.classes (entry t.rows.now t.width) c.args.found c.args.queue.now c.args.number.now c.args.prev.now c.args.via.now c.args.i c.args.a c.requires.so_far c.requires.here.0 (omega arith) c.next-q.result.0 c.next-q.ensures.value (c.known.ensures.new c.if-known.false) c.next-q.ensures.below
+    c.enter.new.queue c.enter.new.number c.enter.new.prev c.enter.new.via c.requires.room c.enter.ensures.queue c.enter.ensures.number c.enter.ensures.prev c.enter.ensures.via

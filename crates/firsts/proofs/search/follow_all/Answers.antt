@@ -1,18 +1,13 @@
 use Rattle.std.proofs.Common.{◌≡◌, ◌^◌, subst, arith}
-use Rattle.std.proofs.lemmas.Nat.{one_shl}
 use Rattle.tables.specs.Cells.{entry}
 use Rattle.firsts.specs.Search.{Seeking}
 use Rattle.firsts.proofs.SearchLaws.{seeking_row}
 use Rattle.firsts.proofs.search.follow_all.Goals as goal
 
-pub returns : goal.returns
-returns c =
+pub returns-clause-so_far : goal.returns-clause-so_far
+returns-clause-so_far c =
     let t = c.args.t in
     let s = c.loop-a in
-    let width = one_shl c.args.k 32 (omega arith) in
-    let all : s.a ≡ 2 ^ c.args.k = omega arith in
-    record {
-      more = s.invariant.0;
-      so_far = seeking_row c.args.k t.classes (entry t.rows.now t.width) s.count s.queue s.number s.prev s.via c.args.i
-          (subst (Seeking c.args.k t.classes (entry t.rows.now t.width) s.count s.queue s.number s.prev s.via c.args.i) all s.invariant.1);
-    }
+    let all : s.a ≡ 2 ^ t.sets = omega arith in
+    seeking_row t.sets t.classes (entry t.rows.now t.width) s.count s.queue s.number s.prev s.via c.args.i
+    (subst (Seeking t.sets t.classes (entry t.rows.now t.width) s.count s.queue s.number s.prev s.via c.args.i) all s.invariant.1)

@@ -1,7 +1,7 @@
-use Rattle.std.proofs.Common.{◌-◌, get_or, sym, ◌∙◌, arith}
+use Rattle.std.proofs.Common.{◌-◌, get_or, ◌∙◌, arith}
 use Rattle.std.proofs.lemmas.List.{length-set}
 use Rattle.firsts.specs.Spell.{Falls}
-use Rattle.firsts.proofs.SpellLaws.{word_above, length_step, write_start, write_step, write_end}
+use Rattle.firsts.proofs.SpellLaws.{word_above, length_step, write_step}
 use Rattle.firsts.proofs.spell.write_word.Goals as goal
 
 pub loop-left-preserved : goal.loop-left-preserved

@@ -12,5 +12,5 @@ pub returns : goal.returns
 returns c = (
   omega arith,
   leaf_worked (said c.args.kind) c.args.k c.args.most _ c.explore-count.result c.explore-count.new.at c.explore-count.new.rows c.accept_states.new.accept c.join-n.new.cls c.join-n.new.firsts c.join-n.result
-      (one_shl c.args.k 64 (omega arith)) c.explore-count.ensures.explored c.accept_states.ensures c.join-n.ensures.joined c.quotient.new.rows c.quotient.new.accept c.quotient.ensures (omega arith),
+      (one_shl c.args.k 64 (omega arith)) c.explore-count.ensures.explored c.accept_states.ensures c.join-n.ensures.joined c.quotient.new.rows c.quotient.new.accept c.quotient.ensures.leads c.quotient.ensures.ends (omega arith),
 )

@@ -4,19 +4,19 @@ use Rattle.tables.specs.Cells.{entry, accepts}
 use Rattle.live.proofs.DeadLaws.{live_accepting, lives_but}
 use Rattle.live.proofs.dead.dead.Goals as goal
 
-pub returns-then-is_dead : goal.returns-then-is_dead
-returns-then-is_dead c =
+pub returns-then-is_dead-clause-live : goal.returns-then-is_dead-clause-live
+returns-then-is_dead-clause-live c =
     let t = c.args.t in
     let q = c.loop-q.q in
     let δ = entry t.rows.now t.width in
     let f = accepts t.accept.now in
-    let nothing = dead_stays c.args.k δ f q (c.if-is_dead.ensures.rejects refl) (λ a h. c.if-is_dead.ensures.stays refl a (omega arith)) in
-    record { within = omega arith; live = lives_but c.args.k t.classes δ f c.requires.connected c.requires.collapsed q (omega arith) nothing }
+    let nothing = dead_stays t.sets δ f q (c.if-is_dead.ensures.rejects refl) (λ a h. c.if-is_dead.ensures.stays refl a (omega arith)) in
+    lives_but t.sets t.classes δ f c.requires.connected c.requires.collapsed q (omega arith) nothing
 
 pub loop-q-preserved : goal.loop-q-preserved
 loop-q-preserved c =
     let t = c.args.t in
-    let k = c.args.k in
+    let k = t.sets in
     let q = c.loop-q.q in
     let δ = entry t.rows.now t.width in
     let f = accepts t.accept.now in

@@ -1,4 +1,4 @@
-use Rattle.std.proofs.Common.{sym, subst, arith}
+use Rattle.std.proofs.Common.{sym, subst}
 use Rattle.tables.specs.Cells.{entry}
 use Rattle.bitsets.specs.Bitrows.{Below}
 use Rattle.bitsets.proofs.InternLaws.{interned_start}
@@ -6,20 +6,13 @@ use Rattle.subsets.proofs.ProjectionLaws.{start_below}
 use Rattle.subsets.proofs.FoundLaws.{found_start}
 use Rattle.subsets.proofs.projection.begin.Goals as goal
 
-pub intern-requires : goal.intern-requires
-intern-requires c = record {
-  interned = interned_start c.start_set.new.sets c.args.p.now.w c.args.heads.now c.args.links.now c.args.buckets.now;
-  room = (omega arith, c.requires.room.2, c.requires.room.3, c.requires.room.4, omega arith);
-}
+pub intern-requires-clause-interned : goal.intern-requires-clause-interned
+intern-requires-clause-interned c = interned_start c.start_set.new.sets c.args.p.now.w c.args.heads.now c.args.links.now c.args.buckets.now
 
-pub mark-requires : goal.mark-requires
-mark-requires c =
+pub mark-requires-clause-inside : goal.mark-requires-clause-inside
+mark-requires-clause-inside c =
     let p = c.args.p.now in
-    record {
-      posed = c.requires.posed;
-      inside = subst (Below p.t.classes) (sym c.start_set.ensures) (start_below p.t.classes p.dead (entry p.t.rows.now p.t.width) p.x.0);
-      room = (omega arith, c.requires.room.0);
-    }
+    subst (Below p.t.classes) (sym c.start_set.ensures) (start_below p.t.classes p.dead (entry p.t.rows.now p.t.width) p.x.0)
 
 pub returns : goal.returns
-returns c = found_start c.mark.new.accept c.intern.result c.requires.posed c.start_set.ensures c.intern.ensures c.mark.ensures.told
+returns c = found_start c.mark.new.accept c.intern.result c.start_set.ensures c.intern.ensures c.mark.ensures.told

@@ -8,8 +8,8 @@ pub get-to-requires : goal.get-to-requires
 get-to-requires c =
     let p = c.args.p.now in
     let e = put_is p.x.0 c.args.a c.without_bit.result false c.without_bit.ensures.here c.without_bit.ensures.others in
-    let b = put_bit_below p.k p.x.0 false c.args.a c.requires.posed.bound (omega (arith, c.requires.posed.wide, c.requires.place.1)) in
-    (c.requires.room, (c.requires.place.0, omega (arith, c.requires.posed.wide)))
+    let b = put_bit_below p.t.sets p.x.0 false c.args.a p.bound (omega (arith, p.t.wide, c.requires.place.1)) in
+    (c.requires.room, (c.requires.place.0, omega (arith, p.t.wide)))
 
 -- what stands at column b is written at column a
 copied : (rows rows' : List ℕ) (width i a b b' to : ℕ) → rows' ≡ put_entry rows width i a to → to ≡ entry rows width i b → b ≡ b' → rows' ≡ put_entry rows width i a (entry rows width i b')

@@ -1,24 +1,14 @@
-use Rattle.std.proofs.Common.{arith}
-use Rattle.subsets.proofs.FoundLaws.{set_below, set_fits, new_interned, new_below, found_again, found_fresh, found_many}
+use Rattle.subsets.proofs.FoundLaws.{set_below, new_below, found_again, found_fresh, found_many}
 use Rattle.subsets.proofs.projection.work_out.Goals as goal
 
-pub next_set-requires : goal.next_set-requires
-next_set-requires c =
-    let y = c.requires.ready in
-    record { posed = y.posed; inside = set_below y c.args.i y.row; place = (y.row, set_fits y, y.column); without = c.requires.without }
+pub next_set-requires-clause-inside : goal.next_set-requires-clause-inside
+next_set-requires-clause-inside c = set_below c.requires.ready c.args.i c.requires.ready.row
 
 pub returns-then-n-p : goal.returns-then-n-p
 returns-then-n-p c = found_many c.requires.ready c.next_set.new.sets c.next_set.ensures.made c.next_set.ensures.kept c.args.rows.now c.in-None.ensures c.if-n-p.true
 
-pub mark-requires : goal.mark-requires
-mark-requires c =
-    let y = c.requires.ready in
-    let h = set_fits y in
-    record {
-      posed = y.posed;
-      inside = new_below y c.next_set.new.sets c.next_set.ensures.made c.next_set.ensures.kept;
-      room = (omega arith, omega (arith, y.room.accept_fits, y.found.few, c.if-n-p.false));
-    }
+pub mark-requires-clause-inside : goal.mark-requires-clause-inside
+mark-requires-clause-inside c = new_below c.requires.ready c.next_set.new.sets c.next_set.ensures.made c.next_set.ensures.kept
 
 pub returns-in-Some : goal.returns-in-Some
 returns-in-Some c = found_again c.requires.ready c.next_set.new.sets c.next_set.ensures.made c.next_set.ensures.kept c.put.new.rows c.in-Some.ensures c.put.ensures
