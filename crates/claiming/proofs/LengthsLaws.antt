@@ -12,9 +12,9 @@ use Rattle.formulas.specs.declared.formula.Group.TheVariants.{Named as group, Em
 use Rattle.formulas.specs.declared.formula.Formula.TheVariants.{True, Same, Less, In, Sub, Not', And', Or', Implies', Some1', All1', Some2', All2'}
 use Rattle.formulas.specs.Names.{names_place, names_group, names, without}
 use Rattle.translating.specs.Numbers.{Numbering, numbered, numbers, fresh}
-use Rattle.translating.specs.Translation.{some_place, lies, is_before, is_end, about, behind, is_place, is_in, each_in, set_within, is_within, claim}
+use Rattle.translating.specs.Translation.{some_place, lies, is_before, is_end, about, behind, is_place, is_in, is_same, each_in, set_within, is_within, claim}
 use Rattle.translating.specs.Settles.{singles}
-use Rattle.claiming.specs.Lengths.{about_length, behind_length, place_length, group_length, set_within_length, within_length, formula_length, places_length}
+use Rattle.claiming.specs.Lengths.{about_length, behind_length, place_length, group_length, same_length, set_within_length, within_length, formula_length, places_length}
 
 abbrev bytes : C → ℕ
 bytes c = length (row c)
@@ -61,20 +61,28 @@ outside_bytes m c d i j p q = simp length-append (omega arith)
 each_bytes : (s t : Group) (ρ : Numbering) (m : ℕ) → bytes (each_in ρ s t m) ≡ group_length s + group_length t + 8
 each_bytes s t ρ m = outside_bytes m (is_in s ρ m) (is_in t ρ m) (group_length s) (group_length t) (group_bytes s ρ m) (group_bytes t ρ m) ∙ omega arith
 
+and_bytes : (c d : C) → bytes (and1 c d) ≡ bytes c + bytes d + 1
+and_bytes c d = simp length-append (omega arith)
+
 set_within_bytes : (ρ : Numbering) (x : ℕ) (t : Group) (m : ℕ) → bytes (set_within ρ x t m) ≡ set_within_length t
 set_within_bytes ρ x (group y) m = refl
 set_within_bytes ρ x Empty m = refl
+set_within_bytes ρ x (Inter' _ s _ t) m = let p = set_within_bytes ρ x s m in let q = set_within_bytes ρ x t m in and_bytes (set_within ρ x s m) (set_within ρ x t m) ∙ omega arith
 set_within_bytes ρ x t m = outside_bytes m (lies m (ρ (OfGroup x))) (is_in t ρ m) 6 (group_length t) refl (group_bytes t ρ m)
 
 within_bytes : (ρ : Numbering) (s t : Group) (m : ℕ) → bytes (is_within ρ s t m) ≡ within_length s t
 within_bytes ρ (group x) t m = set_within_bytes ρ x t m
+within_bytes ρ Empty t m = refl
+within_bytes ρ (Union' _ r _ s) t m = let p = within_bytes ρ r t m in let q = within_bytes ρ s t m in and_bytes (is_within ρ r t m) (is_within ρ s t m) ∙ omega arith
 within_bytes ρ s t m = each_bytes s t ρ m
+
+same_bytes : (ρ : Numbering) (s t : Place) (m : ℕ) → bytes (is_same ρ s t m) ≡ same_length s t
+same_bytes ρ (place x) t m = place_bytes t ρ (ρ (OfPlace x))
+same_bytes ρ s t m = about_bytes ρ t m (is_place t ρ m) (λ b. is_place s ρ b) (place_length t) (place_length s) (place_bytes t ρ m) (λ b. place_bytes s ρ b)
 
 pub formula_bytes : (a : Formula) (ρ : Numbering) → bytes (claim a ρ) ≡ formula_length a
 formula_bytes True ρ = refl
-formula_bytes (Same s t) ρ =
-    let m = fresh (numbers ρ (names_place s ++ names_place t)) in
-    about_bytes ρ t m (is_place t ρ m) (λ b. is_place s ρ b) (place_length t) (place_length s) (place_bytes t ρ m) (λ b. place_bytes s ρ b)
+formula_bytes (Same s t) ρ = same_bytes ρ s t (fresh (numbers ρ (names_place s ++ names_place t)))
 formula_bytes (Less s t) ρ =
     let l = numbers ρ (names_place s ++ names_place t) in
     let m = fresh l in

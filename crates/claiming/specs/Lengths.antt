@@ -36,18 +36,25 @@ abbrev mutual
   group_length (Inter' _ s _ t) = group_length s + group_length t + 1
   group_length (Minus' _ s _ t) = group_length s + group_length t + 2
 
+abbrev pub same_length : Place → Place → ℕ
+same_length (place x) t = place_length t
+same_length s t = about_length t (place_length t) (place_length s)
+
 abbrev pub set_within_length : Group → ℕ
 set_within_length (group y) = 3
 set_within_length Empty = 7
+set_within_length (Inter' _ s _ t) = set_within_length s + set_within_length t + 1
 set_within_length t = group_length t + 14
 
 abbrev pub within_length : Group → Group → ℕ
 within_length (group x) t = set_within_length t
+within_length Empty t = 3
+within_length (Union' _ r _ s) t = within_length r t + within_length s t + 1
 within_length s t = group_length s + group_length t + 8
 
 abbrev pub formula_length : Formula → ℕ
 formula_length True = 3
-formula_length (Same s t) = about_length t (place_length t) (place_length s)
+formula_length (Same s t) = same_length s t
 formula_length (Less s t) = about_length s (place_length s) (about_length t (place_length t) 3)
 formula_length (In t s) = about_length t (place_length t) (group_length s)
 formula_length (Sub s t) = within_length s t

@@ -10,7 +10,7 @@ pub fn formula_length(formula: &Formula) -> usize
 {
     match formula {
         Formula::True => 3,
-        Formula::Same(s, t) => about_length(t, place_length(s)),
+        Formula::Same(s, t) => same_length(s, t),
         Formula::Less(s, t) => about_length(s, about_length(t, 3)),
         Formula::In(t, s) => about_length(t, group_length(s)),
         Formula::Sub(s, t) => within_length(s, t),
@@ -73,12 +73,33 @@ fn about_length(place: &Place, n: usize) -> usize
     }
 }
 
+fn same_length(s: &Place, t: &Place) -> usize
+    ensures { result ≡ min (Lengths.same_length s.now t.now) usize.MAX }
+{
+    match s {
+        Place::Named(_) => place_length(t),
+        _ => about_length(t, place_length(s)),
+    }
+}
+
 fn within_length(s: &Group, t: &Group) -> usize
     ensures { result ≡ min (Lengths.within_length s.now t.now) usize.MAX }
 {
-    match (s, t) {
-        (Group::Named(_), Group::Named(_)) => 3,
-        (Group::Named(_), Group::Empty) => 7,
+    match s {
+        Group::Named(_) => set_within_length(t),
+        Group::Empty => 3,
+        Group::Union(r, s) => sum(within_length(r, t), within_length(s, t), 1),
         _ => sum(group_length(s), group_length(t), 8),
+    }
+}
+
+fn set_within_length(t: &Group) -> usize
+    ensures { result ≡ min (Lengths.set_within_length t.now) usize.MAX }
+{
+    match t {
+        Group::Named(_) => 3,
+        Group::Empty => 7,
+        Group::Inter(s, t) => sum(set_within_length(s), set_within_length(t), 1),
+        _ => group_length(t).saturating_add(14),
     }
 }
