@@ -159,7 +159,13 @@ fn within(alloc: Global, s: &Group, t: &Group, scope: &Scope, m: usize) -> Resul
 }
 
 // Every place of the set that the name x has is one of t.
-fn set_within(alloc: Global, x: u32, t: &Group, scope: &Scope, m: usize) -> Result<Claim, AllocError>
+fn set_within(
+    alloc: Global,
+    x: u32,
+    t: &Group,
+    scope: &Scope,
+    m: usize,
+) -> Result<Claim, AllocError>
     ensures { IfOk result (λ c. said c ≡ Translation.set_within (number_of scope.now) x t.now m) }
 {
     let n = scope.number(Name::OfGroup(x));
@@ -183,7 +189,13 @@ fn set_within(alloc: Global, x: u32, t: &Group, scope: &Scope, m: usize) -> Resu
 }
 
 // No place m of which the claim holds is outside of t.
-fn none_outside(alloc: Global, claim: Claim, t: &Group, scope: &Scope, m: usize) -> Result<Claim, AllocError>
+fn none_outside(
+    alloc: Global,
+    claim: Claim,
+    t: &Group,
+    scope: &Scope,
+    m: usize,
+) -> Result<Claim, AllocError>
     ensures { IfOk result (λ c. said c ≡ not1 (Translation.some_place m (and1 (said claim) (not1 (Translation.is_in t.now (number_of scope.now) m))))) }
 {
     let in_t = is_in(alloc, t, scope, m)?;

@@ -1,12 +1,12 @@
 -- The claim that is made of a formula holds exactly if the formula does.
-use Rattle.std.proofs.Common.{◌≡◌, ℕ, ◌<◌, Bool, true, ◌↔◌, List, [], ◌∷◌, ◌++◌, sym, refl, ◌∙◌, subst, inl, inr}
+use Rattle.std.proofs.Common.{◌≡◌, ℕ, ◌<◌, Bool, true, ◌↔◌, List, ◌∷◌, ◌++◌, sym, refl, ◌∙◌, subst, inl, inr}
 use Rattle.words.specs.Words.{Sets, Word, sets}
 use Rattle.claims.specs.Claims.{before, Holds, Of, has, put}
 use Rattle.claims.proofs.PlacesLaws.{put_same}
 use Rattle.formulas.specs.declared.name.Name.TheVariants.{OfPlace, OfGroup}
 use Rattle.formulas.specs.declared.formula.Place.{Place}
 use Rattle.formulas.specs.declared.formula.Formula.{Formula}
-use Rattle.formulas.specs.declared.formula.Place.TheVariants.{Named as place, First, Succ', Prev', Least', Most'}
+use Rattle.formulas.specs.declared.formula.Place.TheVariants.{Named as place}
 use Rattle.formulas.specs.declared.formula.Formula.TheVariants.{True, Same, Less, In, Sub, Not', And', Or', Implies', Some1', All1', Some2', All2'}
 use Rattle.formulas.specs.Meaning.{Env, with_place, with_group, value, members, Meaning}
 use Rattle.formulas.specs.Names.{names_place, names_group, names, without, Among}
@@ -16,7 +16,7 @@ use Rattle.translating.specs.Translation.{about, is_place, is_in, claim}
 use Rattle.translating.proofs.NumbersLaws.{among_part, fresh_free}
 use Rattle.translating.proofs.Families.{Family, Agree, family_put, put_agree, only_agree}
 use Rattle.translating.proofs.Standing.{Stand, stand_left, stand_right, stand_agree, stand_bind, place_other, group_other, place_here, group_here}
-use Rattle.translating.proofs.Connectives.{before_says, iff_trans, iff_not, iff_and, or_says, implies_says, some_place_says, all_place_says, all_says}
+use Rattle.translating.proofs.Connectives.{before_says, iff_not, iff_and, or_says, implies_says, some_place_says, all_place_says, all_says}
 use Rattle.translating.proofs.Terms.{fresh_head, fresh_tail, about_says, place_says, group_says}
 use Rattle.translating.proofs.Within.{within_says}
 

@@ -1,5 +1,5 @@
 -- What the claims say that a set is within another.
-use Rattle.std.proofs.Common.{◌≡◌, ℕ, Bool, true, false, ◌&&◌, ◌||◌, ◌⊎◌, ◌↔◌, List, [], ◌∷◌, ◌++◌, sym, refl, ◌∙◌, inl, inr}
+use Rattle.std.proofs.Common.{◌≡◌, ℕ, Bool, true, ◌&&◌, ◌||◌, ◌↔◌, List, [], ◌∷◌, ◌++◌, sym, refl, ◌∙◌, inl, inr}
 use mathlib.Core.Bool.{false≢true}
 use Rattle.words.specs.Words.{Sets}
 use Rattle.claims.specs.Claims.{and1, not1, Holds, has, put}
@@ -7,7 +7,7 @@ use Rattle.claims.proofs.PlacesLaws.{put_same}
 use Rattle.formulas.specs.declared.name.Name.{Name}
 use Rattle.formulas.specs.declared.name.Name.TheVariants.{OfGroup}
 use Rattle.formulas.specs.declared.formula.Group.{Group}
-use Rattle.formulas.specs.declared.formula.Group.TheVariants.{Named as group, Empty, Only', Union', Inter', Minus'}
+use Rattle.formulas.specs.declared.formula.Group.TheVariants.{Named as group, Empty, Union', Inter'}
 use Rattle.formulas.specs.declared.formula.Formula.TheVariants.{Sub}
 use Rattle.formulas.specs.Sets.{mix}
 use Rattle.formulas.specs.Meaning.{Env, members, Meaning}
