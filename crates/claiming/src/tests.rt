@@ -29,6 +29,20 @@ fn a_place_between(rt: HostRuntime) -> Result<(), Fail> {
     Ok(())
 }
 
+// `p + 1 in X`: that p is a place, and some place 2 that comes just behind it and is one of the set's.
+#[test]
+fn the_place_behind(rt: HostRuntime) -> Result<(), Fail> {
+    let alloc = rt.alloc();
+    let behind = Place::Succ(Box::new(alloc, Place::Named(0))?);
+    let formula = Formula::In(behind, Group::Named(0));
+    let bytes = claim_bytes(alloc, &formula, &[Name::OfPlace(0), Name::OfGroup(0)])?;
+    assert_eq!(rt;
+        bytes.as_slice(),
+        [3, 5, 1, 0, 6, 2, 5, 2, 0, 2, 5, 1, 2, 0, 2, 1].as_slice()
+    );
+    Ok(())
+}
+
 // A set has the name of one outside, and its number, since nothing inside speaks of that one.
 #[test]
 fn a_name_again(rt: HostRuntime) -> Result<(), Fail> {

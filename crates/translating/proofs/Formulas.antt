@@ -17,7 +17,7 @@ use Rattle.translating.proofs.NumbersLaws.{among_part, fresh_free}
 use Rattle.translating.proofs.Families.{Family, Agree, family_put, put_agree, only_agree}
 use Rattle.translating.proofs.Standing.{Stand, stand_left, stand_right, stand_agree, stand_bind, place_other, group_other, place_here, group_here}
 use Rattle.translating.proofs.Connectives.{before_says, iff_not, iff_and, or_says, implies_says, some_place_says, all_place_says, all_says}
-use Rattle.translating.proofs.Terms.{fresh_head, fresh_tail, about_says, place_says, group_says}
+use Rattle.translating.proofs.Terms.{fresh_head, fresh_tail, about_says, sure_place, place_says, group_says}
 use Rattle.translating.proofs.Within.{within_says}
 
 same_other : (p q : Place) (ρ : Numbering) (e : Env) (m : ℕ) (v : Sets) → Family v → Stand v ρ e (names_place p ++ names_place q) → (Among m (numbers ρ (names_place p ++ names_place q)) → ⊥) →
@@ -25,7 +25,7 @@ same_other : (p q : Place) (ρ : Numbering) (e : Env) (m : ℕ) (v : Sets) → F
 same_other p q ρ e m v f s d =
     let k = names_place p in let l = names_place q in
     let on : (t : Sets) → Agree m v t → Stand t ρ e (k ++ l) = λ t a. stand_agree m v t ρ e (k ++ l) a d s in
-    about_says q ρ e m (is_place q ρ m) (λ b. is_place p ρ b) v (λ j. value p e ≡ j) f (stand_right v ρ e k l s)
+    about_says q ρ e m (is_place q ρ m) (λ b. is_place p ρ b) v (λ j. value p e ≡ j) (sure_place q ρ m) f (stand_right v ρ e k l s)
     (λ t i ft a o. place_says q ρ e m i t ft (stand_right t ρ e k l (on t a)) o)
     (λ t b i ft a r o. place_says p ρ e b i t ft (stand_left t ρ e k l (on t a)) o)
 
@@ -48,16 +48,16 @@ says (Less p q) ρ e v f s =
       | inl x ↦ fresh_head m (numbers ρ (k ++ l)) (sym x ∙ z)
       | inr x ↦ fresh_tail m (numbers ρ (k ++ l)) (subst (λ y. Among y (numbers ρ (k ++ l))) z (among_part ρ b k (k ++ l) (λ y g. among_left y k l g) x))
     ] in
-    about_says p ρ e m (is_place p ρ m) (λ a. about ρ q n (is_place q ρ n) (λ b. before a b)) v (λ i. i < value q e) f (stand_left v ρ e k l s)
+    about_says p ρ e m (is_place p ρ m) (λ a. about ρ q n (is_place q ρ n) (λ b. before a b)) v (λ i. i < value q e) (sure_place p ρ m) f (stand_left v ρ e k l s)
     (λ t i ft a o. place_says p ρ e m i t ft (stand_left t ρ e k l (on t a)) o)
-    (λ t b i ft a r o. about_says q ρ e n (is_place q ρ n) (λ d. before b d) t (λ j. i < j) ft (stand_right t ρ e k l (on t a))
+    (λ t b i ft a r o. about_says q ρ e n (is_place q ρ n) (λ d. before b d) t (λ j. i < j) (sure_place q ρ n) ft (stand_right t ρ e k l (on t a))
     (λ t' j ft' a' o'. place_says q ρ e n j t' ft' (stand_right t' ρ e k l (stand_agree n t t' ρ e (k ++ l) a' (fresh_tail m (numbers ρ (k ++ l))) (on t a))) o')
     (λ t' d j ft' a' r' o'. before_says t' b d i j (only_agree n b i t t' a' (apart b r) o) o'))
 says (In p g) ρ e v f s =
     let k = names_place p in let l = names_group g in
     let m = fresh (numbers ρ (k ++ l)) in
     let on : (t : Sets) → Agree m v t → Stand t ρ e (k ++ l) = λ t a. stand_agree m v t ρ e (k ++ l) a (fresh_free (numbers ρ (k ++ l))) s in
-    about_says p ρ e m (is_place p ρ m) (λ b. is_in g ρ b) v (λ j. has (members g e) j ≡ true) f (stand_left v ρ e k l s)
+    about_says p ρ e m (is_place p ρ m) (λ b. is_in g ρ b) v (λ j. has (members g e) j ≡ true) (sure_place p ρ m) f (stand_left v ρ e k l s)
     (λ t i ft a o. place_says p ρ e m i t ft (stand_left t ρ e k l (on t a)) o)
     (λ t b i ft a r o. group_says g ρ e b i t ft (stand_right t ρ e k l (on t a)) o)
 says (Sub g h) ρ e v f s = let l = names_group g ++ names_group h in within_says g h ρ e (fresh (numbers ρ l)) v f s (fresh_free (numbers ρ l))

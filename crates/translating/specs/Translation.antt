@@ -43,9 +43,10 @@ is_before m n b = or1 (next n b) (and1 (lies n b) (is_first m n))
 abbrev pub is_end : ℕ → ℕ → C → C → C → C
 is_end m n in_n in_m beyond = or1 (and1 in_n (not1 (some_place m (and1 beyond in_m)))) (and1 (is_first m n) (not1 (some_place m in_m)))
 
--- c of the place t: of its own set if it has a name, else of set m, which is_t says to be it
+-- c of the place t: of its own set if it has a name, else of set m, which is_t says to be it; that it is the place behind one says already that it is a place
 abbrev pub about : Numbering → Place → ℕ → C → (ℕ → C) → C
 about ρ (place x) m is_t c = c (ρ (OfPlace x))
+about ρ (Succ' _ t) m is_t c = some m (and1 is_t (c m))
 about ρ t m is_t c = some_place m (and1 is_t (c m))
 
 -- set n is the place behind t; m and is_t as above
