@@ -1,0 +1,3 @@
+-- Laws of what rules are in the theory's words.
+pub mod RuleLaws
+pub mod FreshLaws

@@ -1,0 +1,4 @@
+-- Rust's types of rules, what they are in the theory, and what a claim's bytes are.
+pub mod Local
+pub mod Numbers
+pub mod Rule

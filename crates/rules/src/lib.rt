@@ -1,0 +1,9 @@
+// A rule of modules as Rust types, one step of a row by it, and the bytes of the claims that it makes.
+#![tactic(auto)]
+
+pub mod clauses;
+pub mod local;
+pub mod numbers;
+pub mod rule;
+pub mod table;
+pub mod writer;
