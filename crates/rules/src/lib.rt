@@ -2,6 +2,7 @@
 #![tactic(auto)]
 
 pub mod clauses;
+pub mod known;
 pub mod local;
 pub mod numbers;
 pub mod rule;
