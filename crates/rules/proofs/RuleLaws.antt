@@ -8,9 +8,7 @@ use Rattle.rules.specs.declared.rule.Side.{Side}
 use Rattle.rules.specs.declared.rule.Line.{Line}
 use Rattle.rules.specs.declared.rule.Literal.{Literal}
 use Rattle.rules.specs.declared.rule.NewBit.{NewBit}
-use Rattle.rules.specs.declared.rule.NewBit.TheVariants.{Fixed, AsWas}
 use Rattle.rules.specs.declared.rule.Pattern.{Pattern}
-use Rattle.rows.specs.Patterns as rows
 use Rattle.rows.specs.Local.{Local, non, both, before, behind, neg}
 use Rattle.rows.specs.RuleLocal.{same_side, on, either, implies, fits_nothing, literals_local, left_local, right_local, fits_local, allowed_local, waits_local, news_local, after_local}
 use Rattle.rows.proofs.Bools.{bool_apart}

@@ -17,6 +17,9 @@ row_front b [] = []
 row_front b (j ∷ js) = 6 ∷ (suc b + j) ∷ 5 ∷ 0 ∷ (suc b + j) ∷ b ∷ row_front b js
 
 -- what stands before the claim of a row after the step
+abbrev pub group_front : ℕ → (ℕ → ℕ) → List rules.Line → List ℕ → List ℕ
+group_front b y R js = 5 ∷ row (each b (after_local b same_number y js R))
+
 abbrev pub after_front : ℕ → (ℕ → ℕ) → List rules.Line → List (List ℕ) → List ℕ
 after_front b y R [] = []
-after_front b y R (js ∷ gs) = (5 ∷ row (each b (after_local b same_number y js R))) ++ after_front b y R gs
+after_front b y R (js ∷ gs) = group_front b y R js ++ after_front b y R gs

@@ -1,5 +1,5 @@
 -- The rule, its patterns and its table in the theory's words.
-use Rattle.std.specs.Prelude.{ℕ, Bool, List, [], ◌∷◌}
+use Rattle.std.specs.Prelude.{List, [], ◌∷◌}
 use Rattle.rows.specs.Views as views
 use Rattle.rows.specs.Patterns as patterns
 use Rattle.rows.specs.Rules as rules

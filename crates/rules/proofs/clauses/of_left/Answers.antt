@@ -1,6 +1,6 @@
-use Rattle.std.proofs.Common.{◌≡◌, sym, ap, ◌∙◌, cond, true}
-use Rattle.rows.specs.Local.{non, before, neg}
-use Rattle.rows.specs.RuleLocal.{fits_nothing, literals_local, left_local}
+use Rattle.std.proofs.Common.{◌≡◌, sym, ◌∙◌, true}
+use Rattle.rows.specs.Local.{non}
+use Rattle.rows.specs.RuleLocal.{fits_nothing, left_local}
 use Rattle.rules.specs.Local.{local_of}
 use Rattle.rules.specs.Rule.{literals_of}
 use Rattle.rules.specs.Numbers.{number_of}

@@ -1,4 +1,4 @@
-use Rattle.std.proofs.Common.{◌≡◌, ℕ, ◌<◌, ◌||◌, true, sym, ◌∙◌, eqb, subst, arith}
+use Rattle.std.proofs.Common.{sym, ◌∙◌, arith}
 use Rattle.rows.specs.Local.{names}
 use Rattle.rules.specs.Local.{local_of}
 use Rattle.rules.proofs.FreshLaws.{neither, fresh_is, fresh_above}
