@@ -4,6 +4,7 @@ use crate::faults::Fault;
 use crate::split::{Word, split_line};
 use rules::rule::{Asked, Line, Literal, NewBit, Pattern, Rule, Side};
 use std::alloc::{AllocError, Global};
+use words::bits::{Set, with_bit};
 
 // A claim of the file: somewhere in an allowed row a module is as the pattern says, which is not to be.
 #[derive(Drop)]
@@ -17,6 +18,8 @@ pub struct Source {
     pub names: Vec<Vec<u8>>,
     pub rule: Rule,
     pub nevers: Vec<Never>,
+    // Rows that are given, as columns.
+    pub rows: Vec<Vec<u32>>,
 }
 
 // What the lines belong to.
@@ -246,6 +249,7 @@ struct Reading {
     table: Vec<Line>,
     lines: Vec<usize>,
     nevers: Vec<Never>,
+    rows: Vec<Vec<u32>>,
     section: Section,
 }
 
@@ -308,8 +312,52 @@ fn read_never(
         ));
     };
     let pattern = read_pattern(alloc, &reading.names, line, pattern)?;
-    let name = name.text.clone()?;
+    let Some((name, _)) = cut(alloc, &name.text, b':')? else {
+        return at(line, name, "a colon is expected behind the name");
+    };
     reading.nevers.push(Never { name, pattern })?;
+    Ok(())
+}
+
+// A module of a given row: the names of its bits with + between them, or a point for a module without bits.
+fn read_module(alloc: Global, names: &[Vec<u8>], line: usize, word: &Word) -> Result<u32, Fault> {
+    if word.is(b".") {
+        return Ok(0);
+    }
+    let mut column = 0u32;
+    let mut rest = word.text.clone()?;
+    for _ in 0..MOST_BITS + 1 {
+        let (name, behind) = match cut(alloc, &rest, b'+')? {
+            Some((name, behind)) => (name, Some(behind)),
+            None => (rest.clone()?, None),
+        };
+        match bit_of(names, &name) {
+            Some(j) if j < 32 => column = with_bit(column, Set(j)),
+            _ => return at(
+                line,
+                word,
+                "a point, or names of bits with + between them are expected",
+            ),
+        }
+        match behind {
+            Some(behind) => rest = behind,
+            None => break,
+        }
+    }
+    Ok(column)
+}
+
+fn read_row(
+    alloc: Global,
+    reading: &mut Reading,
+    line: usize,
+    words: &[Word],
+) -> Result<(), Fault> {
+    let mut row = Vec::new(alloc);
+    for word in words {
+        row.push(read_module(alloc, &reading.names, line, word)?)?;
+    }
+    reading.rows.push(row)?;
     Ok(())
 }
 
@@ -333,11 +381,18 @@ fn read_words(
         reading.section = Section::Table;
         return Ok(());
     }
+    if first.is(b"row:") {
+        return read_row(alloc, reading, line, rest);
+    }
     if first.is(b"never") {
         return read_never(alloc, reading, line, rest);
     }
     match reading.section {
-        Section::None => at(line, first, "bits:, allowed:, table: or never is expected"),
+        Section::None => at(
+            line,
+            first,
+            "bits:, allowed:, table:, row: or never is expected",
+        ),
         Section::Allowed => {
             let pattern = read_pattern(alloc, &reading.names, line, words)?;
             reading.allowed.push(pattern)?;
@@ -354,6 +409,7 @@ pub fn read_source(alloc: Global, text: &str) -> Result<Source, Fault> {
         table: Vec::new(alloc),
         lines: Vec::new(alloc),
         nevers: Vec::new(alloc),
+        rows: Vec::new(alloc),
         section: Section::None,
     };
     let mut number = 0usize;
@@ -368,6 +424,7 @@ pub fn read_source(alloc: Global, text: &str) -> Result<Source, Fault> {
         table,
         lines: _,
         nevers,
+        rows,
         section: _,
     } = reading;
     if names.is_empty() {
@@ -386,5 +443,6 @@ pub fn read_source(alloc: Global, text: &str) -> Result<Source, Fault> {
             table,
         },
         nevers,
+        rows,
     })
 }

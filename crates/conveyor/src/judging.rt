@@ -100,7 +100,7 @@ fn told(
         Answer::First(row) => {
             let count = row.len();
             let fails = words.fails;
-            println!(rt; "  {name}: {fails} {count} modules")?;
+            println!(rt; "  {name}: {fails} {count}")?;
             tell_row(rt, source, &row)?;
             if words.step {
                 tell_after(rt, source, &row)?;
@@ -146,24 +146,31 @@ fn changed_bits(alloc: Global, rule: &Rule) -> anyhow::Result<Vec<u8>> {
 pub fn judge_all(rt: &HostRuntime, source: &Source, show: bool, steps: u32) -> anyhow::Result<()> {
     let alloc = rt.alloc();
     let rule = &source.rule;
+    if steps > 0 {
+        for row in &source.rows {
+            println!(rt; "  a given row")?;
+            tell_row(rt, source, row)?;
+            tell_steps(rt, source, row, steps)?;
+        }
+    }
     let some = Words {
         name: "some row is allowed",
         settled: "no: no row is allowed, of whatever length, so what follows is empty talk",
-        fails: "yes, first a row of",
+        fails: "yes, the first row has length",
         step: false,
     };
     told(rt, source, some, allowed_claim(alloc, rule), show, 0)?;
     let stuck = Words {
         name: "no allowed row is stuck",
         settled: "settled for every length",
-        fails: "fails, first at",
+        fails: "fails, first at length",
         step: false,
     };
     told(rt, source, stuck, stuck_claim(alloc, rule), show, steps)?;
     let left = Words {
         name: "the row after an allowed row is allowed",
         settled: "settled for every length",
-        fails: "fails, first at",
+        fails: "fails, first at length",
         step: true,
     };
     let changed = changed_bits(alloc, rule)?;
@@ -173,7 +180,7 @@ pub fn judge_all(rt: &HostRuntime, source: &Source, show: bool, steps: u32) -> a
         let words = Words {
             name,
             settled: "never, settled for every length",
-            fails: "found, first in a row of",
+            fails: "found, first at length",
             step: false,
         };
         told(
