@@ -1,0 +1,103 @@
+// What is so at a place, as a tree, and the lowest number that such a tree does not name.
+ghost use Rattle.std.specs.Prelude.{◌≡◌, ◌≤◌, IfOk, MatchOption};
+ghost use Rattle.rows.specs.Local.{non, both, before, behind, neg, names as is_named, fresh as fresh_number};
+ghost use Rattle.rows.specs.RuleLocal.{either, implies, also};
+ghost use Rattle.rules.specs.Local.{local_of};
+
+use std::alloc::{AllocError, Global};
+
+#[derive(Debug, Drop)]
+pub enum Local {
+    All,
+    Sees(usize),
+    Non(Box<Local>),
+    Both(Box<Local>, Box<Local>),
+    Before(Box<Local>),
+    Behind(Box<Local>),
+}
+
+pub fn non(alloc: Global, f: Local) -> Result<Local, AllocError>
+    ensures { IfOk result (λ r. local_of r ≡ non (local_of f)) }
+{
+    Ok(Local::Non(Box::new(alloc, f)?))
+}
+
+pub fn both(alloc: Global, f: Local, g: Local) -> Result<Local, AllocError>
+    ensures { IfOk result (λ r. local_of r ≡ both (local_of f) (local_of g)) }
+{
+    Ok(Local::Both(Box::new(alloc, f)?, Box::new(alloc, g)?))
+}
+
+pub fn before(alloc: Global, f: Local) -> Result<Local, AllocError>
+    ensures { IfOk result (λ r. local_of r ≡ before (local_of f)) }
+{
+    Ok(Local::Before(Box::new(alloc, f)?))
+}
+
+pub fn behind(alloc: Global, f: Local) -> Result<Local, AllocError>
+    ensures { IfOk result (λ r. local_of r ≡ behind (local_of f)) }
+{
+    Ok(Local::Behind(Box::new(alloc, f)?))
+}
+
+// The opposite, without a double not.
+pub fn negated(alloc: Global, f: Local) -> Result<Local, AllocError>
+    ensures { IfOk result (λ r. local_of r ≡ neg (local_of f)) }
+{
+    match f {
+        Local::Non(g) => Ok(Box::into_inner(g)),
+        g => non(alloc, g),
+    }
+}
+
+pub fn either(alloc: Global, f: Local, g: Local) -> Result<Local, AllocError>
+    ensures { IfOk result (λ r. local_of r ≡ either (local_of f) (local_of g)) }
+{
+    let neither = both(alloc, negated(alloc, f)?, negated(alloc, g)?)?;
+    non(alloc, neither)
+}
+
+pub fn implies(alloc: Global, f: Local, g: Local) -> Result<Local, AllocError>
+    ensures { IfOk result (λ r. local_of r ≡ implies (local_of f) (local_of g)) }
+{
+    let fails = both(alloc, f, negated(alloc, g)?)?;
+    non(alloc, fails)
+}
+
+// Both, where neither says everything.
+pub fn also(alloc: Global, f: Local, g: Local) -> Result<Local, AllocError>
+    ensures { IfOk result (λ r. local_of r ≡ also (local_of f) (local_of g)) }
+{
+    match (f, g) {
+        (Local::All, g) => Ok(g),
+        (f, Local::All) => Ok(f),
+        (f, g) => both(alloc, f, g),
+    }
+}
+
+// Whether the tree names set y.
+pub fn names(f: &Local, y: usize) -> bool
+    ensures { result ≡ is_named (local_of f.now) y }
+{
+    match f {
+        Local::All => false,
+        Local::Sees(x) => y == *x,
+        Local::Non(g) | Local::Before(g) | Local::Behind(g) => names(g, y),
+        Local::Both(g, h) => names(g, y) || names(h, y),
+    }
+}
+
+// No claim has so many sets.
+const MOST_NUMBERS: usize = 256;
+
+// The lowest number that is not p and that the tree does not name, unless all numbers of one byte are taken.
+pub fn fresh(p: usize, f: &Local) -> Option<usize>
+    ensures { MatchOption result (256 ≤ fresh_number p (local_of f.now)) (λ y. y ≡ fresh_number p (local_of f.now)) }
+{
+    for y in 0..MOST_NUMBERS {
+        if y != p && !names(f, y) {
+            return Some(y);
+        }
+    }
+    None
+}
