@@ -2,3 +2,5 @@
 #![tactic(auto)]
 
 pub mod formula;
+pub mod free;
+pub mod name;

@@ -1,0 +1,9 @@
+// From a formula to the bytes of its claim.
+#![tactic(auto)]
+
+
+pub mod length;
+pub mod scope;
+pub mod terms;
+pub mod translate;
+pub mod tree;

@@ -1,0 +1,7 @@
+pub mod NumbersLaws
+pub mod Families
+pub mod Standing
+pub mod Connectives
+pub mod Terms
+pub mod Formulas
+pub mod SettlesLaws

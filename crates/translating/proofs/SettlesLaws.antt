@@ -1,0 +1,52 @@
+-- What is judged of a formula: that its places are places and that it holds of what the word says.
+use Rattle.std.proofs.Common.{◌≡◌, ℕ, zero, suc, ◌↔◌, List, [], ◌∷◌, map, sym, refl, ◌∙◌, subst, inl, inr, arith}
+use Rattle.words.specs.Words.{Sets, Word, sets, bit}
+use Rattle.claims.specs.Claims.{C, Holds, Of, Only, has}
+use Rattle.formulas.specs.declared.name.Name.{Name}
+use Rattle.formulas.specs.declared.name.Name.TheVariants.{OfPlace, OfGroup}
+use Rattle.formulas.specs.Sets.{lowest}
+use Rattle.formulas.specs.Meaning.{Meaning}
+use Rattle.formulas.proofs.SetsLaws.{lowest_says}
+use Rattle.translating.specs.Numbers.{Numbering}
+use Rattle.translating.specs.Translation.{claim}
+use Rattle.translating.specs.Settles.{singles, Singles, env_of, Settles}
+use Rattle.translating.proofs.Standing.{Stand}
+use Rattle.translating.proofs.Formulas.{of_words}
+
+has_sets : (x : ℕ) (v : Word) (i : ℕ) → has (map (bit x) v) i ≡ sets v x i
+has_sets x [] i = refl
+has_sets x (a ∷ v) zero = refl
+has_sets x (a ∷ v) (suc i) = has_sets x v i
+
+only_lowest : (x i : ℕ) (w : Word) → Only (sets w) x i → lowest (map (bit x) w) ≡ i
+only_lowest x i w o = (lowest_says (map (bit x) w) i).0
+    (inl (has_sets x w i ∙ o.0, λ p. (let e = o.1 p.0 (sym (has_sets x w p.0) ∙ p.1.1) in let l = p.1.0 in omega arith)))
+
+pub stand_of : (ρ : Numbering) (l : List Name) (w : Word) → Singles ρ l (sets w) → Stand (sets w) ρ (env_of ρ w) l
+stand_of ρ l w s (OfPlace x) h = let (i, o) = s x h in subst (Only (sets w) (ρ (OfPlace x))) (sym (only_lowest (ρ (OfPlace x)) i w o)) o
+stand_of ρ l w s (OfGroup x) h = λ i. sym (has_sets (ρ (OfGroup x)) w i)
+
+name_place : {x y : ℕ} → OfPlace x ≡ OfPlace y → x ≡ y
+name_place e = cc
+
+name_apart : {x y : ℕ} → OfPlace x ≡ OfGroup y → ⊥
+name_apart e = let z : ◌≡◌ {A = ℕ} 0 1 = cc in omega arith
+
+pub singles_says : (ρ : Numbering) (l : List Name) (c : C) (v : Sets) → Holds (singles ρ l c) v ↔ (Singles ρ l v × Holds c v)
+singles_says ρ [] c v = (λ h. (λ x a. absurd a, h), λ h. h.1)
+singles_says ρ (OfPlace y ∷ l) c v =
+    let r = singles_says ρ l c v in (
+      λ h. (let q = r.0 h.1 in (λ x a. elim a [ inl e ↦ subst (λ z. (i : ℕ) × Only v (ρ (OfPlace z)) i) (sym (name_place e)) h.0 | inr b ↦ q.0 x b ], q.1)),
+      λ h. (h.0 y (inl refl), r.1 (λ x a. h.0 x (inr a), h.1)),
+    )
+singles_says ρ (OfGroup y ∷ l) c v =
+    let r = singles_says ρ l c v in (
+      λ h. (let q = r.0 h in (λ x a. elim a [ inl e ↦ absurd (name_apart e) | inr b ↦ q.0 x b ], q.1)),
+      λ h. r.1 (λ x a. h.0 x (inr a), h.1),
+    )
+
+pub settles : Settles
+settles a ρ l w covers =
+    let r = singles_says ρ l (claim a ρ) (sets w) in
+    let m : Singles ρ l (sets w) → Of (claim a ρ) w ↔ Meaning a (env_of ρ w) = λ s. of_words a ρ (env_of ρ w) w (λ x h. stand_of ρ l w s x (covers x h)) in
+    (λ h. (let (s, c) = r.0 h in (s, (m s).0 c)), λ h. r.1 (h.0, (m h.0).1 h.1))

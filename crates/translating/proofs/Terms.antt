@@ -1,0 +1,144 @@
+-- What the claims that are made of terms say of places.
+use Rattle.std.proofs.Common.{◌≡◌, ℕ, suc, ◌-◌, Bool, true, not, ◌&&◌, ◌||◌, ◌⊎◌, ◌↔◌, List, [], ◌∷◌, sym, refl, ◌∙◌, subst, inl, inr, arith}
+use mathlib.Core.Bool.{false≢true}
+use Rattle.words.specs.Words.{Sets}
+use Rattle.claims.specs.Claims.{C, next, before, not1, and1, some, Holds, Only, has, put}
+use Rattle.claims.specs.Places.{one}
+use Rattle.claims.proofs.PlacesLaws.{only_one}
+use Rattle.formulas.specs.declared.name.Name.TheVariants.{OfPlace, OfGroup}
+use Rattle.formulas.specs.declared.formula.Place.{Place}
+use Rattle.formulas.specs.declared.formula.Group.{Group}
+use Rattle.formulas.specs.declared.formula.Place.TheVariants.{Named as place, First, Succ', Prev', Least', Most'}
+use Rattle.formulas.specs.declared.formula.Group.TheVariants.{Named as group, Empty, Only', Union', Inter', Minus'}
+use Rattle.formulas.specs.Sets.{lowest, highest}
+use Rattle.formulas.specs.Meaning.{Env, value, members}
+use Rattle.formulas.specs.Names.{names_place, names_group, Among}
+use Rattle.formulas.proofs.SetsLaws.{mix_has, or_true, and_true, but_true, one_says, prev_says, Extreme, Below, Above, lowest_says, highest_says}
+use Rattle.translating.specs.Numbers.{Numbering, numbers, fresh}
+use Rattle.translating.specs.Translation.{some_place, lies, is_first, is_before, is_end, about, behind, is_place, is_in}
+use Rattle.translating.proofs.NumbersLaws.{fresh_free}
+use Rattle.translating.proofs.Families.{Family, Agree, family_put, put_agree, only_agree}
+use Rattle.translating.proofs.Standing.{Stand, stand_left, stand_right, stand_agree}
+use Rattle.translating.proofs.Connectives.{next_says, before_says, lies_says, at_says, iff_trans, iff_not, iff_and, or_says, some_place_says, first_says}
+
+pub fresh_head : (n : ℕ) (l : List ℕ) → n ≡ fresh (n ∷ l) → ⊥
+fresh_head n l q = fresh_free (n ∷ l) (inl (sym q))
+
+pub fresh_tail : (n : ℕ) (l : List ℕ) → Among (fresh (n ∷ l)) l → ⊥
+fresh_tail n l h = fresh_free (n ∷ l) (inr h)
+
+iff_sym : {i j : ℕ} → (i ≡ j) ↔ (j ≡ i)
+iff_sym = (λ e. sym e, λ e. sym e)
+
+about_other : (k m : ℕ) (c d : C) (v : Sets) (Q : ℕ → Type 0) → Family v →
+    ((t : Sets) (i : ℕ) → Family t → Agree m v t → Only t m i → Holds c t ↔ (k ≡ i)) →
+    ((t : Sets) (i : ℕ) → Family t → Agree m v t → Only t m i → Holds d t ↔ Q i) → Holds (some_place m (and1 c d)) v ↔ Q k
+about_other k m c d v Q f h g = iff_trans
+    (some_place_says m (and1 c d) v (λ i. (k ≡ i) × Q i) f (λ t i ft a o. iff_and (h t i ft a o) (g t i ft a o)))
+    (λ s. subst Q (sym s.1.0) s.1.1, λ q. (k, (refl, q)))
+
+pub about_says : (p : Place) (ρ : Numbering) (e : Env) (m : ℕ) (c : C) (d : ℕ → C) (v : Sets) (Q : ℕ → Type 0) → Family v → Stand v ρ e (names_place p) →
+    ((t : Sets) (i : ℕ) → Family t → Agree m v t → Only t m i → Holds c t ↔ (value p e ≡ i)) →
+    ((t : Sets) (a i : ℕ) → Family t → Agree m v t → Among a (m ∷ numbers ρ (names_place p)) → Only t a i → Holds (d a) t ↔ Q i) →
+    Holds (about ρ p m c d) v ↔ Q (value p e)
+about_says (place x) ρ e m c d v Q f s h g = g v (ρ (OfPlace x)) (e.places x) f (λ y n i. refl) (inr (inl refl)) (s (OfPlace x) (inl refl))
+about_says First ρ e m c d v Q f s h g = about_other 0 m c (d m) v Q f h (λ t i ft a o. g t m i ft a (inl refl) o)
+about_says (Succ' _ p) ρ e m c d v Q f s h g = about_other (suc (value p e)) m c (d m) v Q f h (λ t i ft a o. g t m i ft a (inl refl) o)
+about_says (Prev' _ p) ρ e m c d v Q f s h g = about_other (value p e - 1) m c (d m) v Q f h (λ t i ft a o. g t m i ft a (inl refl) o)
+about_says (Least' _ p) ρ e m c d v Q f s h g = about_other (lowest (members p e)) m c (d m) v Q f h (λ t i ft a o. g t m i ft a (inl refl) o)
+about_says (Most' _ p) ρ e m c d v Q f s h g = about_other (highest (members p e)) m c (d m) v Q f h (λ t i ft a o. g t m i ft a (inl refl) o)
+
+behind_other : (k m : ℕ) (c : C) (n i : ℕ) (v : Sets) → Family v → (n ≡ m → ⊥) → Only v n i →
+    ((t : Sets) (j : ℕ) → Family t → Agree m v t → Only t m j → Holds c t ↔ (k ≡ j)) → Holds (some m (and1 c (next m n))) v ↔ (suc k ≡ i)
+behind_other k m c n i v f d o h = (λ s. to s.0 s.1.0 s.1.1, from)
+  where
+    to : (u : List Bool) → Holds c (put v m u) → Holds (next m n) (put v m u) → suc k ≡ i
+    to u hc hn =
+        let (j, p, q) = hn in
+        let x = (h (put v m u) j (family_put v m u f) (put_agree v m u) p).0 hc in
+        let y = o.1 (suc j) (sym (put_agree v m u n d (suc j)) ∙ q.0) in
+        omega arith
+
+    from : suc k ≡ i → Holds (some m (and1 c (next m n))) v
+    from e = (
+      one k,
+      (
+        (h (put v m (one k)) k (family_put v m (one k) f) (put_agree v m (one k)) (only_one v m k)).1 refl,
+        (k, only_one v m k, subst (Only (put v m (one k)) n) (sym e) (only_agree m n i v (put v m (one k)) (put_agree v m (one k)) d o)),
+      ),
+    )
+
+behind_says : (p : Place) (ρ : Numbering) (e : Env) (m : ℕ) (c : C) (n i : ℕ) (v : Sets) → Family v → (n ≡ m → ⊥) → Only v n i → Stand v ρ e (names_place p) →
+    ((t : Sets) (j : ℕ) → Family t → Agree m v t → Only t m j → Holds c t ↔ (value p e ≡ j)) → Holds (behind ρ p m c n) v ↔ (suc (value p e) ≡ i)
+behind_says (place x) ρ e m c n i v f d o s h = iff_trans (next_says v (ρ (OfPlace x)) n (e.places x) i (s (OfPlace x) (inl refl)) o) iff_sym
+behind_says First ρ e m c n i v f d o s h = behind_other 0 m c n i v f d o h
+behind_says (Succ' _ p) ρ e m c n i v f d o s h = behind_other (suc (value p e)) m c n i v f d o h
+behind_says (Prev' _ p) ρ e m c n i v f d o s h = behind_other (value p e - 1) m c n i v f d o h
+behind_says (Least' _ p) ρ e m c n i v f d o s h = behind_other (lowest (members p e)) m c n i v f d o h
+behind_says (Most' _ p) ρ e m c n i v f d o s h = behind_other (highest (members p e)) m c n i v f d o h
+
+-- both ends of a set in the same way
+extreme_says : (s : C) (b s' : C) (n m i : ℕ) (v : Sets) (R : ℕ → ℕ → Type 0) (u : List Bool) → Family v → (n ≡ m → ⊥) → Only v n i → Holds s v ↔ (has u i ≡ true) →
+    ((t : Sets) (j : ℕ) → Family t → Agree m v t → Only t m j → Holds b t ↔ R j i) →
+    ((t : Sets) (j : ℕ) → Family t → Agree m v t → Only t m j → Holds s' t ↔ (has u j ≡ true)) →
+    Holds (is_end m n s s' b) v ↔ Extreme R u i
+extreme_says s b s' n m i v R u f d o h g k =
+    or_says (and1 s (not1 (some_place m (and1 b s')))) (and1 (is_first m n) (not1 (some_place m s'))) v f
+    (iff_and h (iff_not (some_place_says m (and1 b s') v (λ j. R j i × (has u j ≡ true)) f (λ t j ft a q. iff_and (g t j ft a q) (k t j ft a q)))))
+    (iff_and (first_says m n i v d o) (iff_not (some_place_says m s' v (λ j. has u j ≡ true) f k)))
+
+mutual
+  pub place_says : (p : Place) (ρ : Numbering) (e : Env) (n i : ℕ) (v : Sets) → Family v → Stand v ρ e (names_place p) → Only v n i → Holds (is_place p ρ n) v ↔ (value p e ≡ i)
+  place_says (place x) ρ e n i v f s o = iff_trans (lies_says v n (ρ (OfPlace x)) i o) (at_says v (ρ (OfPlace x)) i (e.places x) (s (OfPlace x) (inl refl)))
+  place_says First ρ e n i v f s o = iff_trans (first_says (fresh (n ∷ [])) n i v (fresh_head n []) o) iff_sym
+  place_says (Succ' _ p) ρ e n i v f s o =
+      let l = numbers ρ (names_place p) in
+      let m = fresh (n ∷ l) in
+      behind_says p ρ e m (is_place p ρ m) n i v f (fresh_head n l) o s
+      (λ t j ft a q. place_says p ρ e m j t ft (stand_agree m v t ρ e (names_place p) a (fresh_tail n l) s) q)
+  place_says (Prev' _ p) ρ e n i v f s o =
+      let l = numbers ρ (names_place p) in
+      let m = fresh (n ∷ l) in
+      iff_trans
+      (about_says p ρ e m (is_place p ρ m) (is_before (fresh (n ∷ [])) n) v (λ j. (j ≡ suc i) ⊎ ((j ≡ i) × (i ≡ 0))) f s
+      (λ t j ft a q. place_says p ρ e m j t ft (stand_agree m v t ρ e (names_place p) a (fresh_tail n l) s) q)
+      (λ t b j ft a r q. (let w = only_agree m n i v t a (fresh_head n l) o in
+      or_says (next n b) (and1 (lies n b) (is_first (fresh (n ∷ [])) n)) t ft (next_says t n b i j w q)
+      (iff_and (iff_trans (lies_says t n b i w) (at_says t b i j q)) (first_says (fresh (n ∷ [])) n i t (fresh_head n []) w)))))
+      (prev_says (value p e) i)
+  place_says (Least' _ g) ρ e n i v f s o =
+      let l = numbers ρ (names_group g) in
+      let m = fresh (n ∷ l) in
+      iff_trans
+      (extreme_says (is_in g ρ n) (before m n) (is_in g ρ m) n m i v Below (members g e) f (fresh_head n l) o (group_says g ρ e n i v f s o)
+      (λ t j ft a q. before_says t m n j i q (only_agree m n i v t a (fresh_head n l) o))
+      (λ t j ft a q. group_says g ρ e m j t ft (stand_agree m v t ρ e (names_group g) a (fresh_tail n l) s) q))
+      (lowest_says (members g e) i)
+  place_says (Most' _ g) ρ e n i v f s o =
+      let l = numbers ρ (names_group g) in
+      let m = fresh (n ∷ l) in
+      iff_trans
+      (extreme_says (is_in g ρ n) (before n m) (is_in g ρ m) n m i v Above (members g e) f (fresh_head n l) o (group_says g ρ e n i v f s o)
+      (λ t j ft a q. before_says t n m i j (only_agree m n i v t a (fresh_head n l) o) q)
+      (λ t j ft a q. group_says g ρ e m j t ft (stand_agree m v t ρ e (names_group g) a (fresh_tail n l) s) q))
+      (highest_says (members g e) i)
+
+  pub group_says : (g : Group) (ρ : Numbering) (e : Env) (n i : ℕ) (v : Sets) → Family v → Stand v ρ e (names_group g) → Only v n i → Holds (is_in g ρ n) v ↔ (has (members g e) i ≡ true)
+  group_says (group x) ρ e n i v f s o = let q = s (OfGroup x) (inl refl) i in iff_trans (lies_says v n (ρ (OfGroup x)) i o) (λ h. sym q ∙ h, λ h. q ∙ h)
+  group_says Empty ρ e n i v f s o = (λ h. absurd (h (λ j g. g)), λ h. absurd (false≢true h))
+  group_says (Only' _ p) ρ e n i v f s o = iff_trans (place_says p ρ e n i v f s o) (one_says (value p e) i)
+  group_says (Union' _ g _ h) ρ e n i v f s o =
+      let z = mix_has (λ a b. a || b) (members g e) (members h e) i refl in
+      iff_trans (or_says (is_in g ρ n) (is_in h ρ n) v f
+      (group_says g ρ e n i v f (stand_left v ρ e (names_group g) (names_group h) s) o) (group_says h ρ e n i v f (stand_right v ρ e (names_group g) (names_group h) s) o))
+      (iff_trans (or_true (has (members g e) i) (has (members h e) i)) (λ q. z ∙ q, λ q. sym z ∙ q))
+  group_says (Inter' _ g _ h) ρ e n i v f s o =
+      let z = mix_has (λ a b. a && b) (members g e) (members h e) i refl in
+      iff_trans (iff_and
+      (group_says g ρ e n i v f (stand_left v ρ e (names_group g) (names_group h) s) o) (group_says h ρ e n i v f (stand_right v ρ e (names_group g) (names_group h) s) o))
+      (iff_trans (and_true (has (members g e) i) (has (members h e) i)) (λ q. z ∙ q, λ q. sym z ∙ q))
+  group_says (Minus' _ g _ h) ρ e n i v f s o =
+      let z = mix_has (λ a b. a && not b) (members g e) (members h e) i refl in
+      iff_trans (iff_and
+      (group_says g ρ e n i v f (stand_left v ρ e (names_group g) (names_group h) s) o) (iff_not (group_says h ρ e n i v f (stand_right v ρ e (names_group g) (names_group h) s) o)))
+      (iff_trans (but_true (has (members g e) i) (has (members h e) i)) (λ q. z ∙ q, λ q. sym z ∙ q))

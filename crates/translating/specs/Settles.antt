@@ -1,0 +1,33 @@
+-- What the claim of a formula says of a word.
+use Rattle.std.specs.Prelude.{ℕ, ◌↔◌, List, [], ◌∷◌, map}
+use Rattle.words.specs.Words.{Sets, Word, bit, sets}
+use Rattle.claims.specs.Claims.{C, single, and1, Only, Of}
+use Rattle.formulas.specs.declared.name.Name.{Name}
+use Rattle.formulas.specs.declared.name.Name.TheVariants.{OfPlace, OfGroup}
+use Rattle.formulas.specs.declared.formula.Formula.{Formula}
+use Rattle.formulas.specs.Sets.{lowest}
+use Rattle.formulas.specs.Meaning.{Env, Meaning}
+use Rattle.formulas.specs.Names.{names, Among}
+use Rattle.translating.specs.Numbers.{Numbering}
+use Rattle.translating.specs.Translation.{claim}
+
+-- the names of places in l are places
+abbrev pub singles : Numbering → List Name → C → C
+singles ρ [] c = c
+singles ρ (OfPlace x ∷ l) c = and1 (single (ρ (OfPlace x))) (singles ρ l c)
+singles ρ (OfGroup x ∷ l) c = singles ρ l c
+
+abbrev pub Singles : Numbering → List Name → Sets → Type 0
+Singles ρ l v = (x : ℕ) → Among (OfPlace x) l → (i : ℕ) × Only v (ρ (OfPlace x)) i
+
+-- the places and sets that a word gives the names
+abbrev pub env_of : Numbering → Word → Env
+env_of ρ w = record { places = λ x. lowest (map (bit (ρ (OfPlace x))) w); groups = λ x. map (bit (ρ (OfGroup x))) w }
+
+-- every name of a is in l
+abbrev pub Covers : List Name → Formula → Type 0
+Covers l a = (x : Name) → Among x (names a) → Among x l
+
+-- the claim holds of a word exactly if the names of places in l are places in it, and the formula holds of the places and sets that it gives the names
+abbrev pub Settles : Type 0
+Settles = (a : Formula) (ρ : Numbering) (l : List Name) (w : Word) → Covers l a → Of (singles ρ l (claim a ρ)) w ↔ (Singles ρ l (sets w) × Meaning a (env_of ρ w))

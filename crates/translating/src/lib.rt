@@ -1,0 +1,11 @@
+// The claim that is made of a formula is a definition and carries no code. What is proved of it stands on the contract of a function, so that no check passes without its proof.
+#![tactic(auto)]
+
+ghost use Rattle.translating.specs.Settles.{Settles};
+
+// The claim of a formula holds of a word exactly if the formula holds of the places and sets that the word gives its names.
+pub fn settles_stands() -> bool
+    ensures { Settles }
+{
+    true
+}
