@@ -4,3 +4,5 @@ pub mod Listed
 pub mod Scope
 pub mod Points
 pub mod Lengths
+pub mod Count
+pub mod Claimed

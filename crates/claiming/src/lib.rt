@@ -1,9 +1,10 @@
 // From a formula to the bytes of its claim.
 #![tactic(auto)]
 
-
+pub mod claimed;
 pub mod length;
 pub mod scope;
 pub mod terms;
 pub mod translate;
 pub mod tree;
+pub mod written;

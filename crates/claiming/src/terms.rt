@@ -7,14 +7,12 @@ ghost use Rattle.claiming.specs.Tree.{said};
 ghost use Rattle.claiming.specs.Scope.{number_of};
 ghost use Rattle.claiming.specs.Points;
 
-use std::alloc::{AllocError, Global};
-
+use crate::scope::{Scope, fresh};
+use crate::tree::{Claim, and, is_before, is_end, is_first, lies, not, or, some_place, some_set};
 use formulas::formula::{Group, Place};
 use formulas::free::{push_group, push_place};
 use formulas::name::Name;
-
-use crate::scope::{Scope, fresh};
-use crate::tree::{Claim, and, is_before, is_end, is_first, lies, not, or, some_place, some_set};
+use std::alloc::{AllocError, Global};
 
 // Set n, if it is a place, is the place that the term means.
 #[cycle(terms)]
@@ -108,7 +106,13 @@ pub fn set_of(place: &Place, scope: &Scope, m: usize) -> usize
 }
 
 // A claim about a place, as `set_of` gives its set: where that is set m, there is a place m that is_place says to be it.
-pub fn about(alloc: Global, place: &Place, m: usize, is_place: Claim, claim: Claim) -> Result<Claim, AllocError>
+pub fn about(
+    alloc: Global,
+    place: &Place,
+    m: usize,
+    is_place: Claim,
+    claim: Claim,
+) -> Result<Claim, AllocError>
     ensures { IfOk result (λ r. said r ≡ Points.about_set place.now m (said is_place) (said claim)) }
 {
     match place {
@@ -121,7 +125,14 @@ pub fn about(alloc: Global, place: &Place, m: usize, is_place: Claim, claim: Cla
 }
 
 // Set n is the place behind this one.
-fn behind(alloc: Global, place: &Place, scope: &Scope, m: usize, is_place: Claim, n: usize) -> Result<Claim, AllocError>
+fn behind(
+    alloc: Global,
+    place: &Place,
+    scope: &Scope,
+    m: usize,
+    is_place: Claim,
+    n: usize,
+) -> Result<Claim, AllocError>
     ensures { IfOk result (λ r. said r ≡ Translation.behind (number_of scope.now) place.now m (said is_place) n) }
 {
     match place {

@@ -7,15 +7,13 @@ ghost use Rattle.translating.specs.Translation;
 ghost use Rattle.claiming.specs.Tree.{said};
 ghost use Rattle.claiming.specs.Scope.{number_of};
 
-use std::alloc::{AllocError, Global};
-
-use formulas::formula::{Formula, Group, Place};
-use formulas::free::{push_group, push_others, push_place};
-use formulas::name::Name;
-
 use crate::scope::{Scope, fresh};
 use crate::terms::{about, is_in, is_place, set_of};
 use crate::tree::{Claim, all_places, all_sets, and, implies, not, or, some_place, some_set};
+use formulas::formula::{Formula, Group, Place};
+use formulas::free::{push_group, push_others, push_place};
+use formulas::name::Name;
+use std::alloc::{AllocError, Global};
 
 pub fn translate(alloc: Global, formula: &Formula, scope: &Scope) -> Result<Claim, AllocError>
     ensures { IfOk result (λ c. said c ≡ Translation.claim formula.now (number_of scope.now)) }
@@ -73,7 +71,12 @@ pub fn translate(alloc: Global, formula: &Formula, scope: &Scope) -> Result<Clai
 }
 
 // The lowest number that no name of the formula has but the one that a quantifier binds.
-fn beside_others(alloc: Global, bound: Name, formula: &Formula, scope: &Scope) -> Result<usize, AllocError>
+fn beside_others(
+    alloc: Global,
+    bound: Name,
+    formula: &Formula,
+    scope: &Scope,
+) -> Result<usize, AllocError>
     ensures { IfOk result (λ m. m ≡ fresh (numbers (number_of scope.now) (without bound (names formula.now)))) }
 {
     let mut others = Vec::new(alloc);
@@ -131,7 +134,10 @@ fn within(alloc: Global, s: &Group, t: &Group, scope: &Scope) -> Result<Claim, A
     push_group(&mut names, t)?;
     let m = fresh(&[], &names, scope);
     match (s, t) {
-        (Group::Named(x), Group::Named(y)) => Ok(Claim::Within(scope.number(Name::OfGroup(*x)), scope.number(Name::OfGroup(*y)))),
+        (Group::Named(x), Group::Named(y)) => Ok(Claim::Within(
+            scope.number(Name::OfGroup(*x)),
+            scope.number(Name::OfGroup(*y)),
+        )),
         (Group::Named(x), Group::Empty) => {
             let full = not(alloc, Claim::Within(scope.number(Name::OfGroup(*x)), m))?;
             let some = some_set(alloc, m, full)?;

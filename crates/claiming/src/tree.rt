@@ -97,7 +97,15 @@ pub fn is_before(alloc: Global, m: usize, n: usize, b: usize) -> Result<Claim, A
 }
 
 // Set n, if it is a place, is the end of a set of whose places in_n says that n is one, in_m and in_m_too that m is, and beyond that m is further out than n.
-pub fn is_end(alloc: Global, m: usize, n: usize, in_n: Claim, in_m: Claim, in_m_too: Claim, beyond: Claim) -> Result<Claim, AllocError>
+pub fn is_end(
+    alloc: Global,
+    m: usize,
+    n: usize,
+    in_n: Claim,
+    in_m: Claim,
+    in_m_too: Claim,
+    beyond: Claim,
+) -> Result<Claim, AllocError>
     requires { said in_m_too ≡ said in_m }
     ensures { IfOk result (λ r. said r ≡ is_end m n (said in_n) (said in_m) (said beyond)) }
 {

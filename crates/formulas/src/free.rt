@@ -2,10 +2,9 @@
 ghost use Rattle.std.specs.Prelude.{◌≡◌, ◌++◌, OnOk, IfOk};
 ghost use Rattle.formulas.specs.Names.{names_place, names_group, names, without};
 
-use std::alloc::{AllocError, Global};
-
 use crate::formula::{Formula, Group, Place};
 use crate::name::Name;
+use std::alloc::{AllocError, Global};
 
 // Puts the place's names behind those that are there.
 #[cycle(terms)]
@@ -73,14 +72,29 @@ fn push_formula(alloc: Global, found: &mut Vec<Name>, formula: &Formula) -> Resu
             push_formula(alloc, found, a)?;
             push_formula(alloc, found, b)
         }
-        Formula::Some1(x, a) | Formula::All1(x, a) => push_others(alloc, found, Name::OfPlace(*x), a),
-        Formula::Some2(x, a) | Formula::All2(x, a) => push_others(alloc, found, Name::OfGroup(*x), a),
+        Formula::Some1(x, a) | Formula::All1(x, a) => push_others(
+            alloc,
+            found,
+            Name::OfPlace(*x),
+            a,
+        ),
+        Formula::Some2(x, a) | Formula::All2(x, a) => push_others(
+            alloc,
+            found,
+            Name::OfGroup(*x),
+            a,
+        ),
     }
 }
 
 // Puts the formula's names behind those that are there, without the one that a quantifier binds.
 #[cycle(formulas)]
-pub fn push_others(alloc: Global, found: &mut Vec<Name>, bound: Name, formula: &Formula) -> Result<(), AllocError>
+pub fn push_others(
+    alloc: Global,
+    found: &mut Vec<Name>,
+    bound: Name,
+    formula: &Formula,
+) -> Result<(), AllocError>
     ensures { OnOk result (found.new.items ≡ found.old.items ++ without bound (names formula.now)) }
 {
     let mut inner = Vec::new(alloc);

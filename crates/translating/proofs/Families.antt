@@ -17,7 +17,7 @@ abbrev pub Agree : ℕ → Sets → Sets → Type 0
 Agree m v t = (y : ℕ) → (y ≡ m → ⊥) → (i : ℕ) → t y i ≡ v y i
 
 -- a word with the set u for x, longer if u reaches beyond it
-with_set : ℕ → Word → List Bool → Word
+unfoldable pub with_set : ℕ → Word → List Bool → Word
 with_set x [] [] = []
 with_set x [] (b ∷ u) = put_bit x b 0 ∷ with_set x [] u
 with_set x (a ∷ w) [] = put_bit x false a ∷ with_set x w []
@@ -27,7 +27,7 @@ none_either : (b : Bool) → cond b false false ≡ false
 none_either true = refl
 none_either false = refl
 
-with_set_sets : (x : ℕ) (w : Word) (u : List Bool) (y i : ℕ) → sets (with_set x w u) y i ≡ put (sets w) x u y i
+pub with_set_sets : (x : ℕ) (w : Word) (u : List Bool) (y i : ℕ) → sets (with_set x w u) y i ≡ put (sets w) x u y i
 unfolding with_set
 with_set_sets x [] [] y i = sym (none_either (eqb y x))
 with_set_sets x [] (b ∷ u) y zero = bit_put x b 0 y ∙ ap (cond (eqb y x) b) (bit_zero y)

@@ -1,7 +1,7 @@
 -- What is judged of a formula: that its places are places and that it holds of what the word says.
 use Rattle.std.proofs.Common.{◌≡◌, ℕ, zero, suc, ◌↔◌, List, [], ◌∷◌, map, sym, refl, ◌∙◌, subst, inl, inr, arith}
 use Rattle.words.specs.Words.{Sets, Word, sets, bit}
-use Rattle.claims.specs.Claims.{C, Holds, Of, Only, has}
+use Rattle.claims.specs.Claims.{C, and1, single, Holds, Of, Only, has}
 use Rattle.formulas.specs.declared.name.Name.{Name}
 use Rattle.formulas.specs.declared.name.Name.TheVariants.{OfPlace, OfGroup}
 use Rattle.formulas.specs.Sets.{lowest}
@@ -35,9 +35,9 @@ name_apart e = let z : ◌≡◌ {A = ℕ} 0 1 = cc in omega arith
 pub singles_says : (ρ : Numbering) (l : List Name) (c : C) (v : Sets) → Holds (singles ρ l c) v ↔ (Singles ρ l v × Holds c v)
 singles_says ρ [] c v = (λ h. (λ x a. absurd a, h), λ h. h.1)
 singles_says ρ (OfPlace y ∷ l) c v =
-    let r = singles_says ρ l c v in (
-      λ h. (let q = r.0 h.1 in (λ x a. elim a [ inl e ↦ subst (λ z. (i : ℕ) × Only v (ρ (OfPlace z)) i) (sym (name_place e)) h.0 | inr b ↦ q.0 x b ], q.1)),
-      λ h. (h.0 y (inl refl), r.1 (λ x a. h.0 x (inr a), h.1)),
+    let r = singles_says ρ l (and1 (single (ρ (OfPlace y))) c) v in (
+      λ h. (let q = r.0 h in (λ x a. elim a [ inl e ↦ subst (λ z. (i : ℕ) × Only v (ρ (OfPlace z)) i) (sym (name_place e)) q.1.0 | inr b ↦ q.0 x b ], q.1.1)),
+      λ h. r.1 (λ x a. h.0 x (inr a), (h.0 y (inl refl), h.1)),
     )
 singles_says ρ (OfGroup y ∷ l) c v =
     let r = singles_says ρ l c v in (

@@ -11,10 +11,10 @@ use Rattle.formulas.specs.Names.{names, Among}
 use Rattle.translating.specs.Numbers.{Numbering}
 use Rattle.translating.specs.Translation.{claim}
 
--- the names of places in l are places
+-- c, and that the names of places in l are places
 abbrev pub singles : Numbering → List Name → C → C
 singles ρ [] c = c
-singles ρ (OfPlace x ∷ l) c = and1 (single (ρ (OfPlace x))) (singles ρ l c)
+singles ρ (OfPlace x ∷ l) c = singles ρ l (and1 (single (ρ (OfPlace x))) c)
 singles ρ (OfGroup x ∷ l) c = singles ρ l c
 
 abbrev pub Singles : Numbering → List Name → Sets → Type 0
