@@ -4,9 +4,9 @@
 mod options;
 
 use crate::options::{Options, Wish, parse};
-use anyhow::bail;
 use settling::settle::{Source, settle};
 use std::io::Read;
+use std::process::ExitCode;
 use std::rt::Files;
 use std::{env, fs};
 
@@ -33,7 +33,7 @@ fn read_input(rt: &HostRuntime, file: Option<&str>) -> anyhow::Result<Vec<u8>> {
     }
 }
 
-fn settle_file(rt: &HostRuntime, options: &Options) -> anyhow::Result<()> {
+fn settle_file(rt: &HostRuntime, options: &Options) -> anyhow::Result<ExitCode> {
     let file = match &options.file {
         Some(file) => Some(file.as_str()),
         None => None,
@@ -46,16 +46,16 @@ fn settle_file(rt: &HostRuntime, options: &Options) -> anyhow::Result<()> {
     match settle(rt.alloc(), source, options.most, options.form)? {
         Ok(answer) => {
             print!(rt; "{answer}")?;
-            Ok(())
+            Ok(ExitCode::SUCCESS)
         }
         Err(message) => {
             eprint!(rt; "{message}")?;
-            bail!("there is no answer")
+            Ok(ExitCode::FAILURE)
         }
     }
 }
 
-fn run(rt: &HostRuntime) -> anyhow::Result<()> {
+fn run(rt: &HostRuntime) -> anyhow::Result<ExitCode> {
     let mut words = Vec::new(rt.alloc());
     for word in env::args(rt)?.skip(1) {
         words.push(word)?;
@@ -63,12 +63,12 @@ fn run(rt: &HostRuntime) -> anyhow::Result<()> {
     match parse(rt.alloc(), &words)? {
         Wish::Help => {
             print!(rt; "{HELP}")?;
-            Ok(())
+            Ok(ExitCode::SUCCESS)
         }
         Wish::Settle(options) => settle_file(rt, &options),
     }
 }
 
-fn main(rt: HostRuntime) -> anyhow::Result<()> {
+fn main(rt: HostRuntime) -> anyhow::Result<ExitCode> {
     run(&rt)
 }

@@ -24,16 +24,18 @@ fn longest(free: &[Free<'_>]) -> usize {
 
 // The numbers of every tenth place, each above its place.
 fn put_tens(out: &mut String, from: usize, count: usize, margin: usize) -> Result<(), AllocError> {
-    put_blanks(out, margin)?;
+    let mut blanks = margin;
     let mut end = 0;
     for i in 0..count {
         let place = from.saturating_add(i);
         if place % 10 == 0 && i >= end {
             let number = format!(in *out.allocator(); "{place}")?;
+            put_blanks(out, blanks)?;
             out.push_str(number.as_str())?;
+            blanks = 0;
             end = i.saturating_add(number.len());
         } else if i >= end {
-            out.push(' ')?;
+            blanks = blanks.saturating_add(1);
         }
     }
     out.push('\n')

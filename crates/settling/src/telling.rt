@@ -83,12 +83,12 @@ pub fn told(
     fails: &Found,
 ) -> Result<Option<String>, AllocError> {
     match (holds, fails) {
-        (Found::Word(first), Found::Word(second)) => {
+        (Found::Shortest(first), Found::Shortest(second)) => {
             Ok(Some(both(heap, question, first, second)?))
         }
-        (Found::Word(_), Found::None) => Ok(Some(always(heap, question)?)),
-        (Found::None, Found::Word(_)) => Ok(Some(never(heap, question)?)),
-        (Found::None, Found::None) => Ok(Some(format!(in heap;
+        (Found::Shortest(_), Found::Nothing) => Ok(Some(always(heap, question)?)),
+        (Found::Nothing, Found::Shortest(_)) => Ok(Some(never(heap, question)?)),
+        (Found::Nothing, Found::Nothing) => Ok(Some(format!(in heap;
             "always\nNothing meets the assumptions.\n"
         )?)),
         _ => Ok(None),
@@ -116,7 +116,7 @@ pub fn told_columns(
     fails: &Found,
 ) -> Result<Option<String>, AllocError> {
     match (holds, fails) {
-        (Found::Word(first), Found::Word(second)) => {
+        (Found::Shortest(first), Found::Shortest(second)) => {
             let a = first.len();
             let b = second.len();
             let mut out = format!(in heap; "both {a} {b} | ")?;
@@ -126,8 +126,8 @@ pub fn told_columns(
             out.push('\n')?;
             Ok(Some(out))
         }
-        (_, Found::None) => Ok(Some(format!(in heap; "always\n")?)),
-        (Found::None, Found::Word(_)) => Ok(Some(format!(in heap; "never\n")?)),
+        (_, Found::Nothing) => Ok(Some(format!(in heap; "always\n")?)),
+        (Found::Nothing, Found::Shortest(_)) => Ok(Some(format!(in heap; "never\n")?)),
         _ => Ok(None),
     }
 }

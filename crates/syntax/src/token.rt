@@ -1,5 +1,6 @@
 // The tokens of a text. Blanks, and comments from `#` to the end of the line, stand between them.
-ghost use Rattle.std.specs.Prelude.{◌≡◌, ℕ, ◌+◌, ◌<◌, ◌≤◌, length, IfSome};
+ghost use Rattle.std.specs.Prelude.{◌≡◌, ℕ, ◌+◌, ◌<◌, ◌≤◌, length, IfSome, IfOk};
+ghost use Rattle.syntax.specs.Rising.{Rising};
 
 use crate::fault::Fault;
 use crate::position::Span;
@@ -272,7 +273,9 @@ fn is_blank(b: u8) -> bool {
 }
 
 // The tokens of a text, or its first byte with which no token begins.
-pub fn tokens(heap: Global, text: &[u8]) -> Result<Vec<Token>, Fault> {
+pub fn tokens(heap: Global, text: &[u8]) -> Result<Vec<Token>, Fault>
+    ensures { IfOk result (λ all. Rising 0 all.items (length text.now)) }
+{
     let mut all = Vec::new(heap);
     let mut at = gap(text);
     while at < text.len() {

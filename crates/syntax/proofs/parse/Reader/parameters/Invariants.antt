@@ -1,4 +1,4 @@
-use Rattle.std.proofs.Common.{◌≡◌, ℕ, ◌+◌, ◌<◌, ◌≤◌, length, ◌-◌}
+use Rattle.std.proofs.Common.{length, ◌-◌}
 use Rattle.syntax.specs.Reading.{IsBehind}
 use Rattle.syntax.proofs.parse.Reader.parameters.Given as goal
 
