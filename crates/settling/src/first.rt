@@ -1,5 +1,9 @@
 // The first word of which a claim holds.
-ghost use Rattle.std.specs.Prelude.{IfOk};
+ghost use Rattle.std.specs.Prelude.{IfOk, List};
+ghost use Rattle.formulas.specs.declared.name.Name.{Name};
+ghost use Rattle.formulas.specs.declared.formula.Formula.{Formula};
+ghost use Rattle.claiming.specs.Claimed.{Claimed};
+ghost use Rattle.settling.specs.Telling.{Tells};
 ghost use Rattle.settling.specs.Finding.{Finds};
 
 use crate::memory::fits;
@@ -40,4 +44,12 @@ pub fn first_word(heap: Global, claim: &[u8], most: u32) -> Result<Found, AllocE
         Judged::Many => Ok(Found::Many),
         Judged::NoClaim | Judged::OutFull(_, _) | Judged::Few => Ok(Found::Unjudged),
     }
+}
+
+// The same, said of every formula whose claim the bytes are.
+pub fn first_row(heap: Global, claim: &[u8], most: u32) -> Result<Found, AllocError>
+    ensures { IfOk result (λ found. (l : List Name) (a : Formula) → Claimed l a claim.now → Tells l a most found) }
+{
+    let found = first_word(heap, claim, most)?;
+    Ok(found)
 }

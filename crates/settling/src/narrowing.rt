@@ -1,5 +1,5 @@
 // Where too much is told apart: the innermost part of a text that is too large by itself.
-use crate::first::{Found, first_word};
+use crate::first::{Found, first_row};
 use crate::stop::Stop;
 use claiming::claimed::claim_bytes;
 use elaborating::asked::{Asked, Stated};
@@ -29,7 +29,7 @@ fn is_large(heap: Global, formula: &Formula, most: u32) -> Result<bool, Stop> {
     let Ok(claim) = claim_bytes(heap, formula, &names) else {
         return Ok(false);
     };
-    match first_word(heap, &claim, most)? {
+    match first_row(heap, &claim, most)? {
         Found::Many => Ok(true),
         _ => Ok(false),
     }

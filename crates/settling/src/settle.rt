@@ -1,5 +1,5 @@
 // A text, and what is answered.
-use crate::first::{Found, first_word};
+use crate::first::{Found, first_row};
 use crate::memory::largest;
 use crate::narrowing::narrowest;
 use crate::question::{Question, question_of};
@@ -87,8 +87,8 @@ fn answer(
     if form == Form::Bytes {
         return Ok(lines(heap, &question, most)?);
     }
-    let holds = first_word(heap, &question.holds, most)?;
-    let fails = first_word(heap, &question.fails, most)?;
+    let holds = first_row(heap, &question.holds, most)?;
+    let fails = first_row(heap, &question.fails, most)?;
     let told = if form == Form::Columns {
         told_columns(heap, &holds, &fails)?
     } else {
