@@ -1,4 +1,4 @@
--- The code that makes claims of formulas: claims as trees, and the numbers of the sets that stand for names.
+-- The code that makes claims of formulas: claims as trees, the numbers of names by a list and by a scope, places in claims, lengths, and what the call for claims promises.
 pub mod Tree
 pub mod Listed
 pub mod Scope

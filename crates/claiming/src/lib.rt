@@ -5,6 +5,8 @@ pub mod claimed;
 pub mod length;
 pub mod scope;
 pub mod terms;
+#[cfg(test)]
+mod tests;
 pub mod translate;
 pub mod tree;
 pub mod written;

@@ -105,7 +105,7 @@ pub fn set_of(place: &Place, scope: &Scope, m: usize) -> usize
     }
 }
 
-// A claim about a place, as `set_of` gives its set: where that is set m, there is a place m that is_place says to be it.
+// A claim about a place, as `set_of` gives its set: where that is set m, there is a place m that is_place says to be it. Of the place behind one it says also that it is a place.
 pub fn about(
     alloc: Global,
     place: &Place,
@@ -117,6 +117,10 @@ pub fn about(
 {
     match place {
         Place::Named(_) => Ok(claim),
+        Place::Succ(_) => {
+            let both = and(alloc, is_place, claim)?;
+            some_set(alloc, m, both)
+        }
         _ => {
             let both = and(alloc, is_place, claim)?;
             some_place(alloc, m, both)

@@ -1,6 +1,6 @@
 // The claim of a formula, as a tree.
 ghost use Rattle.std.specs.Prelude.{◌≡◌, [], ◌∷◌, ◌++◌, IfOk};
-ghost use Rattle.formulas.specs.declared.name.Name.TheVariants.{OfPlace, OfGroup};
+ghost use Rattle.claims.specs.Claims.{not1, and1};
 ghost use Rattle.formulas.specs.Names.{names_place, names_group, names, without};
 ghost use Rattle.translating.specs.Numbers.{numbers, fresh};
 ghost use Rattle.translating.specs.Translation;
@@ -9,7 +9,7 @@ ghost use Rattle.claiming.specs.Scope.{number_of};
 
 use crate::scope::{Scope, fresh};
 use crate::terms::{about, is_in, is_place, set_of};
-use crate::tree::{Claim, all_places, all_sets, and, implies, not, or, some_place, some_set};
+use crate::tree::{Claim, all_places, all_sets, and, implies, lies, not, or, some_place, some_set};
 use formulas::formula::{Formula, Group, Place};
 use formulas::free::{push_group, push_others, push_place};
 use formulas::name::Name;
@@ -23,7 +23,7 @@ pub fn translate(alloc: Global, formula: &Formula, scope: &Scope) -> Result<Clai
         Formula::Same(s, t) => same(alloc, s, t, scope),
         Formula::Less(s, t) => less(alloc, s, t, scope),
         Formula::In(t, s) => lies_in(alloc, t, s, scope),
-        Formula::Sub(s, t) => within(alloc, s, t, scope),
+        Formula::Sub(s, t) => lies_within(alloc, s, t, scope),
         Formula::Not(a) => {
             let c = translate(alloc, a, scope)?;
             not(alloc, c)
@@ -87,6 +87,9 @@ fn beside_others(
 fn same(alloc: Global, s: &Place, t: &Place, scope: &Scope) -> Result<Claim, AllocError>
     ensures { IfOk result (λ c. said c ≡ Translation.claim (Formula.Same s.now t.now) (number_of scope.now)) }
 {
+    if let Place::Named(x) = s {
+        return is_place(alloc, t, scope, scope.number(Name::OfPlace(*x)));
+    }
     let mut names = Vec::new(alloc);
     push_place(&mut names, s)?;
     push_place(&mut names, t)?;
@@ -126,29 +129,77 @@ fn lies_in(alloc: Global, t: &Place, s: &Group, scope: &Scope) -> Result<Claim, 
     Ok(claim)
 }
 
-fn within(alloc: Global, s: &Group, t: &Group, scope: &Scope) -> Result<Claim, AllocError>
+fn lies_within(alloc: Global, s: &Group, t: &Group, scope: &Scope) -> Result<Claim, AllocError>
     ensures { IfOk result (λ c. said c ≡ Translation.claim (Formula.Sub s.now t.now) (number_of scope.now)) }
 {
     let mut names = Vec::new(alloc);
     push_group(&mut names, s)?;
     push_group(&mut names, t)?;
     let m = fresh(&[], &names, scope);
-    match (s, t) {
-        (Group::Named(x), Group::Named(y)) => Ok(Claim::Within(
-            scope.number(Name::OfGroup(*x)),
-            scope.number(Name::OfGroup(*y)),
-        )),
-        (Group::Named(x), Group::Empty) => {
-            let full = not(alloc, Claim::Within(scope.number(Name::OfGroup(*x)), m))?;
-            let some = some_set(alloc, m, full)?;
-            not(alloc, some)
+    within(alloc, s, t, scope, m)
+}
+
+// Every place of s is one of t; m is a number that no name of theirs has.
+fn within(alloc: Global, s: &Group, t: &Group, scope: &Scope, m: usize) -> Result<Claim, AllocError>
+    ensures { IfOk result (λ c. said c ≡ Translation.is_within (number_of scope.now) s.now t.now m) }
+{
+    match s {
+        Group::Named(x) => set_within(alloc, *x, t, scope, m),
+        Group::Empty => Ok(Claim::Within(0, 0)),
+        Group::Union(r, s) => {
+            let all_r = within(alloc, r, t, scope, m)?;
+            let all_s = within(alloc, s, t, scope, m)?;
+            and(alloc, all_r, all_s)
         }
         _ => {
             let in_s = is_in(alloc, s, scope, m)?;
-            let in_t = is_in(alloc, t, scope, m)?;
-            let outside = and(alloc, in_s, not(alloc, in_t)?)?;
-            let some = some_place(alloc, m, outside)?;
-            not(alloc, some)
+            none_outside(alloc, in_s, t, scope, m)
         }
     }
+}
+
+// Every place of the set that the name x has is one of t.
+fn set_within(
+    alloc: Global,
+    x: u32,
+    t: &Group,
+    scope: &Scope,
+    m: usize,
+) -> Result<Claim, AllocError>
+    ensures { IfOk result (λ c. said c ≡ Translation.set_within (number_of scope.now) x t.now m) }
+{
+    let n = scope.number(Name::OfGroup(x));
+    match t {
+        Group::Named(y) => Ok(Claim::Within(n, scope.number(Name::OfGroup(*y)))),
+        Group::Empty => {
+            let outside = not(alloc, Claim::Within(n, m))?;
+            let some = some_set(alloc, m, outside)?;
+            not(alloc, some)
+        }
+        Group::Inter(s, t) => {
+            let all_s = set_within(alloc, x, s, scope, m)?;
+            let all_t = set_within(alloc, x, t, scope, m)?;
+            and(alloc, all_s, all_t)
+        }
+        _ => {
+            let in_x = lies(alloc, m, n)?;
+            none_outside(alloc, in_x, t, scope, m)
+        }
+    }
+}
+
+// No place m of which the claim holds is outside of t.
+fn none_outside(
+    alloc: Global,
+    claim: Claim,
+    t: &Group,
+    scope: &Scope,
+    m: usize,
+) -> Result<Claim, AllocError>
+    ensures { IfOk result (λ c. said c ≡ not1 (Translation.some_place m (and1 (said claim) (not1 (Translation.is_in t.now (number_of scope.now) m))))) }
+{
+    let in_t = is_in(alloc, t, scope, m)?;
+    let outside = and(alloc, claim, not(alloc, in_t)?)?;
+    let some = some_place(alloc, m, outside)?;
+    not(alloc, some)
 }

@@ -24,3 +24,8 @@ pub among_without : (x y : Name) (l : List Name) → (y ≡ x → ⊥) → Among
 among_without x y [] n h = absurd h
 among_without x y (z ∷ l) n (inl e) = elim (name_tells z x) [ inl q ↦ absurd (n (e ∙ q.1)) | inr q ↦ rw q.0 (inl e) ]
 among_without x y (z ∷ l) n (inr h) = elim (name_tells z x) [ inl q ↦ rw q.0 (among_without x y l n h) | inr q ↦ rw q.0 (inr (among_without x y l n h)) ]
+
+pub among_either : (y : Name) (k l : List Name) → Among y (k ++ l) → Among y k ⊎ Among y l
+among_either y [] l h = inr h
+among_either y (x ∷ k) l (inl e) = inl (inl e)
+among_either y (x ∷ k) l (inr h) = elim (among_either y k l h) [ inl g ↦ inl (inr g) | inr g ↦ inr g ]

@@ -1,64 +1,44 @@
 -- The claim that is made of a formula holds exactly if the formula does.
-use Rattle.std.proofs.Common.{◌≡◌, ℕ, ◌<◌, Bool, true, ◌↔◌, List, [], ◌∷◌, ◌++◌, sym, refl, ◌∙◌, subst, inl, inr}
-use mathlib.Core.Bool.{false≢true}
+use Rattle.std.proofs.Common.{◌≡◌, ℕ, ◌<◌, Bool, true, ◌↔◌, List, ◌∷◌, ◌++◌, sym, refl, ◌∙◌, subst, inl, inr}
 use Rattle.words.specs.Words.{Sets, Word, sets}
-use Rattle.claims.specs.Claims.{before, and1, not1, Holds, Of, has, put}
+use Rattle.claims.specs.Claims.{before, Holds, Of, has, put}
 use Rattle.claims.proofs.PlacesLaws.{put_same}
 use Rattle.formulas.specs.declared.name.Name.TheVariants.{OfPlace, OfGroup}
-use Rattle.formulas.specs.declared.formula.Group.{Group}
+use Rattle.formulas.specs.declared.formula.Place.{Place}
 use Rattle.formulas.specs.declared.formula.Formula.{Formula}
-use Rattle.formulas.specs.declared.formula.Group.TheVariants.{Named as group, Empty}
+use Rattle.formulas.specs.declared.formula.Place.TheVariants.{Named as place}
 use Rattle.formulas.specs.declared.formula.Formula.TheVariants.{True, Same, Less, In, Sub, Not', And', Or', Implies', Some1', All1', Some2', All2'}
 use Rattle.formulas.specs.Meaning.{Env, with_place, with_group, value, members, Meaning}
 use Rattle.formulas.specs.Names.{names_place, names_group, names, without, Among}
 use Rattle.formulas.proofs.NamesLaws.{among_left}
-use Rattle.formulas.proofs.SetsLaws.{true_stable}
 use Rattle.translating.specs.Numbers.{Numbering, numbered, numbers, fresh}
-use Rattle.translating.specs.Translation.{about, is_place, is_in, each_in, set_within, claim}
+use Rattle.translating.specs.Translation.{about, is_place, is_in, claim}
 use Rattle.translating.proofs.NumbersLaws.{among_part, fresh_free}
 use Rattle.translating.proofs.Families.{Family, Agree, family_put, put_agree, only_agree}
 use Rattle.translating.proofs.Standing.{Stand, stand_left, stand_right, stand_agree, stand_bind, place_other, group_other, place_here, group_here}
-use Rattle.translating.proofs.Connectives.{before_says, iff_trans, iff_not, iff_and, or_says, implies_says, some_place_says, all_place_says, all_says}
-use Rattle.translating.proofs.Terms.{fresh_head, fresh_tail, about_says, place_says, group_says}
+use Rattle.translating.proofs.Connectives.{before_says, iff_not, iff_and, or_says, implies_says, some_place_says, all_place_says, all_says}
+use Rattle.translating.proofs.Terms.{fresh_head, fresh_tail, about_says, sure_place, place_says, group_says}
+use Rattle.translating.proofs.Within.{within_says}
 
-each_says : (g h : Group) (ρ : Numbering) (e : Env) (v : Sets) → Family v → Stand v ρ e (names_group g ++ names_group h) → Holds (each_in ρ g h (fresh (numbers ρ (names_group g ++ names_group h)))) v ↔ Meaning (Sub g h) e
-each_says g h ρ e v f s =
-    let k = names_group g in let l = names_group h in
-    let m = fresh (numbers ρ (k ++ l)) in
-    let on : (t : Sets) → Agree m v t → Stand t ρ e (k ++ l) = λ t a. stand_agree m v t ρ e (k ++ l) a (fresh_free (numbers ρ (k ++ l))) s in
-    iff_trans
-    (iff_not (some_place_says m (and1 (is_in g ρ m) (not1 (is_in h ρ m))) v (λ i. (has (members g e) i ≡ true) × (has (members h e) i ≡ true → ⊥)) f
-    (λ t i ft a o. iff_and (group_says g ρ e m i t ft (stand_left t ρ e k l (on t a)) o) (iff_not (group_says h ρ e m i t ft (stand_right t ρ e k l (on t a)) o)))))
-    (λ n i x. true_stable (has (members h e) i) (λ y. n (i, (x, y))), λ c z. z.1.1 (c z.0 z.1.0))
+same_other : (p q : Place) (ρ : Numbering) (e : Env) (m : ℕ) (v : Sets) → Family v → Stand v ρ e (names_place p ++ names_place q) → (Among m (numbers ρ (names_place p ++ names_place q)) → ⊥) →
+    Holds (about ρ q m (is_place q ρ m) (λ b. is_place p ρ b)) v ↔ (value p e ≡ value q e)
+same_other p q ρ e m v f s d =
+    let k = names_place p in let l = names_place q in
+    let on : (t : Sets) → Agree m v t → Stand t ρ e (k ++ l) = λ t a. stand_agree m v t ρ e (k ++ l) a d s in
+    about_says q ρ e m (is_place q ρ m) (λ b. is_place p ρ b) v (λ j. value p e ≡ j) (sure_place q ρ m) f (stand_right v ρ e k l s)
+    (λ t i ft a o. place_says q ρ e m i t ft (stand_right t ρ e k l (on t a)) o)
+    (λ t b i ft a r o. place_says p ρ e b i t ft (stand_left t ρ e k l (on t a)) o)
 
-set_says : (x : ℕ) (h : Group) (ρ : Numbering) (e : Env) (v : Sets) → Family v → Stand v ρ e (OfGroup x ∷ names_group h) → Holds (set_within ρ x h (fresh (numbers ρ (OfGroup x ∷ names_group h)))) v ↔ Meaning (Sub (group x) h) e
-set_says x (group y) ρ e v f s =
-    let p = s (OfGroup x) (inl refl) in let q = s (OfGroup y) (inr (inl refl)) in
-    (λ h i g. sym (q i) ∙ h i (p i ∙ g), λ h i g. q i ∙ h i (sym (p i) ∙ g))
-set_says x Empty ρ e v f s =
-    let n = ρ (OfGroup x) in
-    let m = fresh (n ∷ []) in
-    let p = s (OfGroup x) (inl refl) in
-    let on : (u : List Bool) (i : ℕ) → put v m u n i ≡ v n i = λ u i. put_agree v m u n (fresh_head n []) i in (
-      λ k i g. absurd (k ([], λ w. false≢true (sym (put_same v m [] i) ∙ w i (on [] i ∙ p i ∙ g)))),
-      λ k z. z.1 (λ i g. absurd (false≢true (k i (sym (p i) ∙ sym (on z.0 i) ∙ g)))),
-    )
-set_says x h ρ e v f s = each_says (group x) h ρ e v f s
-
-within_says : (g h : Group) (ρ : Numbering) (e : Env) (v : Sets) → Family v → Stand v ρ e (names_group g ++ names_group h) → Holds (claim (Sub g h) ρ) v ↔ Meaning (Sub g h) e
-within_says (group x) h ρ e v f s = set_says x h ρ e v f s
-within_says g h ρ e v f s = each_says g h ρ e v f s
+same_says : (p q : Place) (ρ : Numbering) (e : Env) (v : Sets) → Family v → Stand v ρ e (names_place p ++ names_place q) → Holds (claim (Same p q) ρ) v ↔ (value p e ≡ value q e)
+same_says (place x) q ρ e v f s =
+    let r = place_says q ρ e (ρ (OfPlace x)) (e.places x) v f (λ y h. s y (inr h)) (s (OfPlace x) (inl refl)) in
+    (λ h. sym (r.0 h), λ h. r.1 (sym h))
+same_says p q ρ e v f s = let l = numbers ρ (names_place p ++ names_place q) in same_other p q ρ e (fresh l) v f s (fresh_free l)
 
 -- where the sets stand for the formula's names
 pub says : (a : Formula) (ρ : Numbering) (e : Env) (v : Sets) → Family v → Stand v ρ e (names a) → Holds (claim a ρ) v ↔ Meaning a e
 says True ρ e v f s = (λ h. tt, λ h i g. g)
-says (Same p q) ρ e v f s =
-    let k = names_place p in let l = names_place q in
-    let m = fresh (numbers ρ (k ++ l)) in
-    let on : (t : Sets) → Agree m v t → Stand t ρ e (k ++ l) = λ t a. stand_agree m v t ρ e (k ++ l) a (fresh_free (numbers ρ (k ++ l))) s in
-    about_says q ρ e m (is_place q ρ m) (λ b. is_place p ρ b) v (λ j. value p e ≡ j) f (stand_right v ρ e k l s)
-    (λ t i ft a o. place_says q ρ e m i t ft (stand_right t ρ e k l (on t a)) o)
-    (λ t b i ft a r o. place_says p ρ e b i t ft (stand_left t ρ e k l (on t a)) o)
+says (Same p q) ρ e v f s = same_says p q ρ e v f s
 says (Less p q) ρ e v f s =
     let k = names_place p in let l = names_place q in
     let m = fresh (numbers ρ (k ++ l)) in
@@ -68,19 +48,19 @@ says (Less p q) ρ e v f s =
       | inl x ↦ fresh_head m (numbers ρ (k ++ l)) (sym x ∙ z)
       | inr x ↦ fresh_tail m (numbers ρ (k ++ l)) (subst (λ y. Among y (numbers ρ (k ++ l))) z (among_part ρ b k (k ++ l) (λ y g. among_left y k l g) x))
     ] in
-    about_says p ρ e m (is_place p ρ m) (λ a. about ρ q n (is_place q ρ n) (λ b. before a b)) v (λ i. i < value q e) f (stand_left v ρ e k l s)
+    about_says p ρ e m (is_place p ρ m) (λ a. about ρ q n (is_place q ρ n) (λ b. before a b)) v (λ i. i < value q e) (sure_place p ρ m) f (stand_left v ρ e k l s)
     (λ t i ft a o. place_says p ρ e m i t ft (stand_left t ρ e k l (on t a)) o)
-    (λ t b i ft a r o. about_says q ρ e n (is_place q ρ n) (λ d. before b d) t (λ j. i < j) ft (stand_right t ρ e k l (on t a))
+    (λ t b i ft a r o. about_says q ρ e n (is_place q ρ n) (λ d. before b d) t (λ j. i < j) (sure_place q ρ n) ft (stand_right t ρ e k l (on t a))
     (λ t' j ft' a' o'. place_says q ρ e n j t' ft' (stand_right t' ρ e k l (stand_agree n t t' ρ e (k ++ l) a' (fresh_tail m (numbers ρ (k ++ l))) (on t a))) o')
     (λ t' d j ft' a' r' o'. before_says t' b d i j (only_agree n b i t t' a' (apart b r) o) o'))
 says (In p g) ρ e v f s =
     let k = names_place p in let l = names_group g in
     let m = fresh (numbers ρ (k ++ l)) in
     let on : (t : Sets) → Agree m v t → Stand t ρ e (k ++ l) = λ t a. stand_agree m v t ρ e (k ++ l) a (fresh_free (numbers ρ (k ++ l))) s in
-    about_says p ρ e m (is_place p ρ m) (λ b. is_in g ρ b) v (λ j. has (members g e) j ≡ true) f (stand_left v ρ e k l s)
+    about_says p ρ e m (is_place p ρ m) (λ b. is_in g ρ b) v (λ j. has (members g e) j ≡ true) (sure_place p ρ m) f (stand_left v ρ e k l s)
     (λ t i ft a o. place_says p ρ e m i t ft (stand_left t ρ e k l (on t a)) o)
     (λ t b i ft a r o. group_says g ρ e b i t ft (stand_right t ρ e k l (on t a)) o)
-says (Sub g h) ρ e v f s = within_says g h ρ e v f s
+says (Sub g h) ρ e v f s = let l = names_group g ++ names_group h in within_says g h ρ e (fresh (numbers ρ l)) v f s (fresh_free (numbers ρ l))
 says (Not' _ a) ρ e v f s = iff_not (says a ρ e v f s)
 says (And' _ a _ b) ρ e v f s = iff_and (says a ρ e v f (stand_left v ρ e (names a) (names b) s)) (says b ρ e v f (stand_right v ρ e (names a) (names b) s))
 says (Or' _ a _ b) ρ e v f s = or_says (claim a ρ) (claim b ρ) v f (says a ρ e v f (stand_left v ρ e (names a) (names b) s)) (says b ρ e v f (stand_right v ρ e (names a) (names b) s))

@@ -6,7 +6,7 @@ use Rattle.std.proofs.lemmas.Bool.Decides.{eqb_tells}
 use Rattle.formulas.specs.declared.name.Name.{Name}
 use Rattle.formulas.specs.Names.{Among}
 use Rattle.automata.proofs.Counting.{pigeon}
-use Rattle.translating.specs.Numbers.{Numbering, numbers, among, free_from, fresh}
+use Rattle.translating.specs.Numbers.{Numbering, numbers, among, free_from, fresh, LowestFree}
 
 pub among_number : (ρ : Numbering) (x : Name) (l : List Name) → Among x l → Among (ρ x) (numbers ρ l)
 among_number ρ x [] h = absurd h
@@ -95,3 +95,6 @@ fresh_full l h = fresh_is l (length l) (at (among (length l) l) refl) h
     at : (b : Bool) → among (length l) l ≡ b → among (length l) l ≡ false
     at true q = let r = numbers_below (suc (length l)) l (one_more (length l) l h q) in absurd (omega arith)
     at false q = q
+
+pub lowest_free : LowestFree
+lowest_free l = (fresh_free l, λ j h. has_among j l (fresh_lowest l j h))

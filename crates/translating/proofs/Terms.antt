@@ -37,16 +37,38 @@ about_other k m c d v Q f h g = iff_trans
     (some_place_says m (and1 c d) v (λ i. (k ≡ i) × Q i) f (λ t i ft a o. iff_and (h t i ft a o) (g t i ft a o)))
     (λ s. subst Q (sym s.1.0) s.1.1, λ q. (k, (refl, q)))
 
-pub about_says : (p : Place) (ρ : Numbering) (e : Env) (m : ℕ) (c : C) (d : ℕ → C) (v : Sets) (Q : ℕ → Type 0) → Family v → Stand v ρ e (names_place p) →
+-- where the claim that a set is the place behind one says that it is a place
+abbrev pub Sure : Place → C → ℕ → Type 0
+Sure (Succ' _ p) c m = (t : Sets) → Holds c t → (i : ℕ) × Only t m i
+Sure p c m = Unit {0}
+
+about_succ : (k m : ℕ) (c d : C) (v : Sets) (Q : ℕ → Type 0) → Family v → ((t : Sets) → Holds c t → (i : ℕ) × Only t m i) →
+    ((t : Sets) (i : ℕ) → Family t → Agree m v t → Only t m i → Holds c t ↔ (k ≡ i)) →
+    ((t : Sets) (i : ℕ) → Family t → Agree m v t → Only t m i → Holds d t ↔ Q i) → Holds (some m (and1 c d)) v ↔ Q k
+about_succ k m c d v Q f sure h g = (λ s. to s.0 s.1.0 s.1.1, from)
+  where
+    to : (u : List Bool) → Holds c (put v m u) → Holds d (put v m u) → Q k
+    to u hc hd =
+        let (i, o) = sure (put v m u) hc in
+        subst Q (sym ((h (put v m u) i (family_put v m u f) (put_agree v m u) o).0 hc)) ((g (put v m u) i (family_put v m u f) (put_agree v m u) o).0 hd)
+
+    from : Q k → Holds (some m (and1 c d)) v
+    from q =
+        let t = put v m (one k) in
+        let ft = family_put v m (one k) f in
+        let o = only_one v m k in
+        (one k, ((h t k ft (put_agree v m (one k)) o).1 refl, (g t k ft (put_agree v m (one k)) o).1 q))
+
+pub about_says : (p : Place) (ρ : Numbering) (e : Env) (m : ℕ) (c : C) (d : ℕ → C) (v : Sets) (Q : ℕ → Type 0) → Sure p c m → Family v → Stand v ρ e (names_place p) →
     ((t : Sets) (i : ℕ) → Family t → Agree m v t → Only t m i → Holds c t ↔ (value p e ≡ i)) →
     ((t : Sets) (a i : ℕ) → Family t → Agree m v t → Among a (m ∷ numbers ρ (names_place p)) → Only t a i → Holds (d a) t ↔ Q i) →
     Holds (about ρ p m c d) v ↔ Q (value p e)
-about_says (place x) ρ e m c d v Q f s h g = g v (ρ (OfPlace x)) (e.places x) f (λ y n i. refl) (inr (inl refl)) (s (OfPlace x) (inl refl))
-about_says First ρ e m c d v Q f s h g = about_other 0 m c (d m) v Q f h (λ t i ft a o. g t m i ft a (inl refl) o)
-about_says (Succ' _ p) ρ e m c d v Q f s h g = about_other (suc (value p e)) m c (d m) v Q f h (λ t i ft a o. g t m i ft a (inl refl) o)
-about_says (Prev' _ p) ρ e m c d v Q f s h g = about_other (value p e - 1) m c (d m) v Q f h (λ t i ft a o. g t m i ft a (inl refl) o)
-about_says (Least' _ p) ρ e m c d v Q f s h g = about_other (lowest (members p e)) m c (d m) v Q f h (λ t i ft a o. g t m i ft a (inl refl) o)
-about_says (Most' _ p) ρ e m c d v Q f s h g = about_other (highest (members p e)) m c (d m) v Q f h (λ t i ft a o. g t m i ft a (inl refl) o)
+about_says (place x) ρ e m c d v Q u f s h g = g v (ρ (OfPlace x)) (e.places x) f (λ y n i. refl) (inr (inl refl)) (s (OfPlace x) (inl refl))
+about_says First ρ e m c d v Q u f s h g = about_other 0 m c (d m) v Q f h (λ t i ft a o. g t m i ft a (inl refl) o)
+about_says (Succ' _ p) ρ e m c d v Q u f s h g = about_succ (suc (value p e)) m c (d m) v Q f u h (λ t i ft a o. g t m i ft a (inl refl) o)
+about_says (Prev' _ p) ρ e m c d v Q u f s h g = about_other (value p e - 1) m c (d m) v Q f h (λ t i ft a o. g t m i ft a (inl refl) o)
+about_says (Least' _ p) ρ e m c d v Q u f s h g = about_other (lowest (members p e)) m c (d m) v Q f h (λ t i ft a o. g t m i ft a (inl refl) o)
+about_says (Most' _ p) ρ e m c d v Q u f s h g = about_other (highest (members p e)) m c (d m) v Q f h (λ t i ft a o. g t m i ft a (inl refl) o)
 
 behind_other : (k m : ℕ) (c : C) (n i : ℕ) (v : Sets) → Family v → (n ≡ m → ⊥) → Only v n i →
     ((t : Sets) (j : ℕ) → Family t → Agree m v t → Only t m j → Holds c t ↔ (k ≡ j)) → Holds (some m (and1 c (next m n))) v ↔ (suc k ≡ i)
@@ -87,6 +109,17 @@ extreme_says s b s' n m i v R u f d o h g k =
     (iff_and h (iff_not (some_place_says m (and1 b s') v (λ j. R j i × (has u j ≡ true)) f (λ t j ft a q. iff_and (g t j ft a q) (k t j ft a q)))))
     (iff_and (first_says m n i v d o) (iff_not (some_place_says m s' v (λ j. has u j ≡ true) f k)))
 
+only_back : (k m i : ℕ) (v : Sets) (u : List Bool) → (m ≡ k → ⊥) → Only (put v k u) m i → Only v m i
+only_back k m i v u d o = (sym (put_agree v k u m d i) ∙ o.0, λ j h. o.1 j (put_agree v k u m d j ∙ h))
+
+behind_sure : (p : Place) (ρ : Numbering) (k : ℕ) (c : C) (m : ℕ) → (m ≡ k → ⊥) → (t : Sets) → Holds (behind ρ p k c m) t → (i : ℕ) × Only t m i
+behind_sure (place x) ρ k c m d t h = (suc h.0, h.2)
+behind_sure p ρ k c m d t h = let (u, q) = h in let (a, b) = q in let (j, o, r) = b in (suc j, only_back k m (suc j) t u d r)
+
+pub sure_place : (p : Place) (ρ : Numbering) (m : ℕ) → Sure p (is_place p ρ m) m
+sure_place (Succ' _ p) ρ m = let l = numbers ρ (names_place p) in let k = fresh (m ∷ l) in behind_sure p ρ k (is_place p ρ k) m (fresh_head m l)
+sure_place p ρ m = tt
+
 mutual
   pub place_says : (p : Place) (ρ : Numbering) (e : Env) (n i : ℕ) (v : Sets) → Family v → Stand v ρ e (names_place p) → Only v n i → Holds (is_place p ρ n) v ↔ (value p e ≡ i)
   place_says (place x) ρ e n i v f s o = iff_trans (lies_says v n (ρ (OfPlace x)) i o) (at_says v (ρ (OfPlace x)) i (e.places x) (s (OfPlace x) (inl refl)))
@@ -100,7 +133,7 @@ mutual
       let l = numbers ρ (names_place p) in
       let m = fresh (n ∷ l) in
       iff_trans
-      (about_says p ρ e m (is_place p ρ m) (is_before (fresh (n ∷ [])) n) v (λ j. (j ≡ suc i) ⊎ ((j ≡ i) × (i ≡ 0))) f s
+      (about_says p ρ e m (is_place p ρ m) (is_before (fresh (n ∷ [])) n) v (λ j. (j ≡ suc i) ⊎ ((j ≡ i) × (i ≡ 0))) (sure_place p ρ m) f s
       (λ t j ft a q. place_says p ρ e m j t ft (stand_agree m v t ρ e (names_place p) a (fresh_tail n l) s) q)
       (λ t b j ft a r q. (let w = only_agree m n i v t a (fresh_head n l) o in
       or_says (next n b) (and1 (lies n b) (is_first (fresh (n ∷ [])) n)) t ft (next_says t n b i j w q)

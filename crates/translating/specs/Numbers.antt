@@ -1,7 +1,7 @@
 -- The numbers of the sets that stand for names.
-use Rattle.std.specs.Prelude.{ℕ, zero, suc, Bool, false, cond, ◌||◌, List, [], ◌∷◌, map, length, ◌==◌}
+use Rattle.std.specs.Prelude.{ℕ, zero, suc, ◌<◌, Bool, false, cond, ◌||◌, List, [], ◌∷◌, map, length, ◌==◌}
 use Rattle.formulas.specs.declared.name.Name.{Name}
-use Rattle.formulas.specs.Names.{same_name}
+use Rattle.formulas.specs.Names.{same_name, Among}
 
 abbrev pub Numbering : Type 0
 Numbering = Name → ℕ
@@ -25,3 +25,7 @@ free_from (suc f) n l = cond (among n l) (free_from f (suc n) l) n
 -- the lowest number that is not in the list
 unfoldable pub fresh : List ℕ → ℕ
 fresh l = free_from (length l) 0 l
+
+-- it is none of the list's, and every lower number is one
+abbrev pub LowestFree : Type 0
+LowestFree = (l : List ℕ) → (Among (fresh l) l → ⊥) × ((j : ℕ) → j < fresh l → Among j l)

@@ -43,9 +43,10 @@ is_before m n b = or1 (next n b) (and1 (lies n b) (is_first m n))
 abbrev pub is_end : ℕ → ℕ → C → C → C → C
 is_end m n in_n in_m beyond = or1 (and1 in_n (not1 (some_place m (and1 beyond in_m)))) (and1 (is_first m n) (not1 (some_place m in_m)))
 
--- c of the place t: of its own set if it has a name, else of set m, which is_t says to be it
+-- c of the place t: of its own set if it has a name, else of set m, which is_t says to be it; that it is the place behind one says already that it is a place
 abbrev pub about : Numbering → Place → ℕ → C → (ℕ → C) → C
 about ρ (place x) m is_t c = c (ρ (OfPlace x))
+about ρ (Succ' _ t) m is_t c = some m (and1 is_t (c m))
 about ρ t m is_t c = some_place m (and1 is_t (c m))
 
 -- set n is the place behind t; m and is_t as above
@@ -80,25 +81,32 @@ abbrev mutual
   is_in (Inter' _ s _ t) ρ n = and1 (is_in s ρ n) (is_in t ρ n)
   is_in (Minus' _ s _ t) ρ n = and1 (is_in s ρ n) (not1 (is_in t ρ n))
 
+-- s and t are the same place; m is tried for a place without a name, where both have none
+abbrev pub is_same : Numbering → Place → Place → ℕ → C
+is_same ρ (place x) t m = is_place t ρ (ρ (OfPlace x))
+is_same ρ s t m = about ρ t m (is_place t ρ m) (λ b. is_place s ρ b)
+
 -- every place of s is one of t, tried as set m
 abbrev pub each_in : Numbering → Group → Group → ℕ → C
 each_in ρ s t m = not1 (some_place m (and1 (is_in s ρ m) (not1 (is_in t ρ m))))
 
--- the same for set a and a set t: where t has a name, or no places, it is said of the sets themselves
+-- the same for the set that the name x has: where t has a name, or no places, it is said of the sets themselves, and of an intersection of both its sets
 abbrev pub set_within : Numbering → ℕ → Group → ℕ → C
 set_within ρ x (group y) m = within (ρ (OfGroup x)) (ρ (OfGroup y))
 set_within ρ x Empty m = not1 (some m (not1 (within (ρ (OfGroup x)) m)))
+set_within ρ x (Inter' _ s _ t) m = and1 (set_within ρ x s m) (set_within ρ x t m)
 set_within ρ x t m = not1 (some_place m (and1 (lies m (ρ (OfGroup x))) (not1 (is_in t ρ m))))
 
+-- and for any: of a union it is said of both its sets
 abbrev pub is_within : Numbering → Group → Group → ℕ → C
 is_within ρ (group x) t m = set_within ρ x t m
+is_within ρ Empty t m = within 0 0
+is_within ρ (Union' _ r _ s) t m = and1 (is_within ρ r t m) (is_within ρ s t m)
 is_within ρ s t m = each_in ρ s t m
 
 abbrev pub claim : Formula → Numbering → C
 claim True ρ = within 0 0
-claim (Same s t) ρ =
-    let m = fresh (numbers ρ (names_place s ++ names_place t)) in
-    about ρ t m (is_place t ρ m) (λ b. is_place s ρ b)
+claim (Same s t) ρ = is_same ρ s t (fresh (numbers ρ (names_place s ++ names_place t)))
 claim (Less s t) ρ =
     let l = numbers ρ (names_place s ++ names_place t) in
     let m = fresh l in
