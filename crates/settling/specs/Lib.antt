@@ -1,0 +1,3 @@
+-- What is found of a claim.
+pub mod Finding
+pub mod Telling

@@ -1,0 +1,2 @@
+-- Lemmas on the tokens of a text.
+pub mod RisingLaws

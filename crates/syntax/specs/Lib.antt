@@ -1,0 +1,4 @@
+-- What the contracts of the readable form's text cite.
+pub mod Position
+pub mod Reading
+pub mod Rising

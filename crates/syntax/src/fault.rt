@@ -1,0 +1,143 @@
+// What is wrong with a text, and how it is shown: where it stands, what was expected and what stands there, and the line with a caret under the place.
+use crate::position::{Span, line_at, position_of};
+use crate::token::{Kind, foreign_reason, spelling};
+use std::alloc::{AllocError, AllocFailed, Global};
+use std::str::from_utf8;
+
+// What could stand at a place.
+#[derive(Clone, Copy, Debug, PartialEq, Eq)]
+pub enum Wanted {
+    Item,
+    Operand,
+    Sort,
+    More(Kind),
+    End(Kind),
+    Token(Kind),
+}
+
+#[derive(Clone, Copy, Debug, PartialEq, Eq)]
+pub enum Fault {
+    Expected(Wanted, Span),
+    Byte(Span),
+    LargeNumber(Span),
+    Deep(Span),
+    Memory,
+}
+
+impl From<AllocError> for Fault {
+    fn from(_error: AllocError) -> Fault {
+        Fault::Memory
+    }
+}
+
+impl<T: Drop> From<AllocFailed<T>> for Fault {
+    fn from(_error: AllocFailed<T>) -> Fault {
+        Fault::Memory
+    }
+}
+
+fn put_wanted(out: &mut String, wanted: Wanted) -> Result<(), AllocError> {
+    match wanted {
+        Wanted::Item => {
+            out.push_str("a declaration (`var1`, `var2`, `pred`, `assert`) or a formula")
+        }
+        Wanted::Operand => out.push_str("a formula or a term"),
+        Wanted::Sort => out.push_str("`var1` or `var2`"),
+        Wanted::Token(kind) => out.push_str(spelling(kind)),
+        Wanted::More(kind) => {
+            out.push_str("`,` or ")?;
+            out.push_str(spelling(kind))
+        }
+        Wanted::End(kind) => {
+            out.push_str(spelling(kind))?;
+            out.push_str(" or an operator")
+        }
+    }
+}
+
+// The bytes of a span, quoted, or that the text ends there.
+fn put_found(out: &mut String, text: &[u8], span: Span) -> Result<(), AllocError> {
+    let bytes = span.of(text);
+    if bytes.is_empty() {
+        return out.push_str("the end of the text");
+    }
+    match from_utf8(bytes) {
+        Ok(word) => {
+            out.push_str("`")?;
+            out.push_str(word)?;
+            out.push_str("`")
+        }
+        Err(_) => out.push_str("a byte that is not ASCII"),
+    }
+}
+
+impl Fault {
+    // Where it stands; without memory nothing in the text is at fault.
+    pub fn span(&self) -> Option<Span> {
+        match self {
+            Fault::Expected(_, span)
+            | Fault::Byte(span)
+            | Fault::LargeNumber(span)
+            | Fault::Deep(span) => Some(*span),
+            Fault::Memory => None,
+        }
+    }
+
+    // What was expected and what stands there, in words.
+    pub fn message(&self, heap: Global, text: &[u8]) -> Result<String, AllocError> {
+        let mut out = String::new(heap);
+        match self {
+            Fault::Expected(wanted, span) => {
+                if let Some(reason) = foreign_reason(span.of(text)) {
+                    put_found(&mut out, text, *span)?;
+                    out.push_str(": ")?;
+                    out.push_str(reason)?;
+                } else {
+                    out.push_str("expected ")?;
+                    put_wanted(&mut out, *wanted)?;
+                    out.push_str(", found ")?;
+                    put_found(&mut out, text, *span)?;
+                }
+            }
+            Fault::Byte(span) => {
+                out.push_str("expected a name, a number or a sign, found ")?;
+                put_found(&mut out, text, *span)?;
+            }
+            Fault::LargeNumber(span) => {
+                out.push_str("expected a number of at most 1000, found ")?;
+                put_found(&mut out, text, *span)?;
+            }
+            Fault::Deep(_) => {
+                out.push_str("expected at most 1000 parts within one another, found more")?
+            }
+            Fault::Memory => out.push_str("there is not enough memory")?,
+        }
+        Ok(out)
+    }
+}
+
+// A message as it is shown: `FILE:LINE:COLUMN: message`, then the line, then a caret under the place.
+pub fn shown(
+    heap: Global,
+    file: &str,
+    text: &[u8],
+    span: Span,
+    message: &str,
+) -> Result<String, AllocError> {
+    let place = position_of(text, span.start);
+    let line = place.line;
+    let column = place.column;
+    let bytes = line_at(text, span.start);
+    let mut out = format!(in heap; "{file}:{line}:{column}: {message}\n")?;
+    let Ok(words) = from_utf8(bytes) else {
+        return Ok(out);
+    };
+    out.push_str("    ")?;
+    out.push_str(words)?;
+    out.push_str("\n    ")?;
+    for b in bytes.iter().take(column.saturating_sub(1)) {
+        out.push_str(if *b == b'\t' { "\t" } else { " " })?;
+    }
+    out.push_str("^\n")?;
+    Ok(out)
+}
