@@ -1,5 +1,5 @@
 -- What the product of two tables is: a class for each pair of classes that a word leads to.
-use Rattle.std.specs.Prelude.{◌≡◌, ℕ, ◌<◌, ◌≤◌, Bool, ◌&&◌, List, slice_index}
+use Rattle.std.specs.Prelude.{◌≡◌, ℕ, ◌<◌, ◌≤◌, ◌&&◌, List, slice_index}
 use Rattle.automata.specs.Product.{Pair, pair, step_pair}
 use Rattle.automata.specs.Search.{Explored}
 use Rattle.tables.specs.Cells.{entry, accepts}
