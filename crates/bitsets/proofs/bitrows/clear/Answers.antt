@@ -1,4 +1,4 @@
-use Rattle.std.proofs.Common.{◌<◌, ◌≢◌, length, arith, get_or-set_other, get_or-set_same, below_more}
+use Rattle.std.proofs.Common.{arith}
 use Rattle.bitsets.proofs.BitrowsLaws.{has_none}
 use Rattle.bitsets.proofs.bitrows.clear.Goals as goal
 

@@ -1,8 +1,7 @@
 use Rattle.std.proofs.Common.{◌≡◌, true, length, refl, inl, inr, arith}
 use mathlib.Core.Bool.{false≢true}
 use Rattle.tables.specs.Cells.{accepts}
-use Rattle.bitsets.specs.Bitrows.{has}
-use Rattle.bitsets.proofs.BitrowsLaws.{word_bits, word_here, word_split, some_below_none, has_below}
+use Rattle.bitsets.proofs.BitrowsLaws.{word_bits, word_here, word_split, has_below}
 use Rattle.bitsets.proofs.bitrows.meets.Goals as goal
 
 pub meets_word-requires : goal.meets_word-requires

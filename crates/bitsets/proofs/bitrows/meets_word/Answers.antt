@@ -1,9 +1,9 @@
-use Rattle.std.proofs.Common.{◌≡◌, ◌+◌, ◌/◌, true, length, refl, inl, inr, arith, rules}
+use Rattle.std.proofs.Common.{◌≡◌, ◌+◌, ◌/◌, true, length, inl, inr, arith}
 use mathlib.Core.Bool.{false≢true}
-use Rattle.std.proofs.lemmas.Bool.{eq-eqb, eqb-true}
+use Rattle.std.proofs.lemmas.Bool.{eqb-true}
 use Rattle.tables.specs.Cells.{accepts}
 use Rattle.bitsets.specs.Bitrows.{SomeBit}
-use Rattle.bitsets.proofs.BitrowsLaws.{some_bit_now, some_bit_later, some_bit_split, some_bit_none, bits_below_now, bits_below_later}
+use Rattle.bitsets.proofs.BitrowsLaws.{some_bit_later, some_bit_split, some_bit_none, bits_below_now, bits_below_later}
 use Rattle.bitsets.proofs.bitrows.meets_word.Goals as goal
 use Rattle.bitsets.proofs.bitrows.meets_word.Goals.{else-left-eq1-via-then-left-eq1+else-accept-q-eq1, else-left-eq1-via-else-left-eq1}
 

@@ -1,8 +1,7 @@
-use Rattle.std.proofs.Common.{◌+◌, ◌%◌, drop, sym, refl, ap, ◌∙◌, arith, rules}
+use Rattle.std.proofs.Common.{◌%◌, sym, ap, ◌∙◌}
 use Rattle.std.proofs.lemmas.Nat.{mod_below}
-use Rattle.std.proofs.lemmas.List.{at_drop_more, at_drop_all}
+use Rattle.std.proofs.lemmas.List.{at_drop_all}
 use Rattle.bitsets.specs.Intern.{hashed, bucket_of}
-use Rattle.bitsets.proofs.InternLaws.{mod_small}
 use Rattle.bitsets.proofs.intern.bucket.Goals as goal
 
 pub returns : goal.returns
