@@ -1,5 +1,5 @@
-use Rattle.std.proofs.Common.{◌≡◌, ◌*◌, ◌%◌, ◌^◌, arith}
-use Rattle.std.proofs.lemmas.Nat.{one_shl, mul-le}
+use Rattle.std.proofs.Common.{arith}
+use Rattle.std.proofs.lemmas.Nat.{one_shl}
 use Rattle.leaves.specs.Kind.{said}
 use Rattle.leaves.proofs.LeafLaws.{leaf_worked, leaf_many}
 use Rattle.leaves.proofs.leaf.leaf.Goals as goal
