@@ -1,0 +1,4 @@
+// What the call's answer on a rule's claim says of rows.
+#![tactic(auto)]
+
+pub mod told;
