@@ -1,12 +1,15 @@
 // The claims of a rule, one after the other: made, judged with buffers of at most 4 MiB, and told.
+ghost use Rattle.asking.specs.Told.{IsSound};
+
 use crate::file::Source;
-use crate::pictures::{tell_after, tell_row, tell_steps};
-use lengths::judge::judge;
-use lengths::judged::Judged;
+use crate::pictures::{tell_after, tell_row, tell_steps, text_of};
+use asking::sound::{has_changed, is_sound, names_bits};
+use asking::told::{Verdict, judge_allowed, judge_left, judge_place, judge_stuck};
 use room::floor::too_few;
 use rules::claim::{allowed_claim, left_claim, place_claim, stuck_claim};
 use rules::known::is_unchanged;
-use rules::rule::{Asked, Pattern, Rule};
+use rules::rule;
+use rules::rule::{Literal, Pattern, Rule};
 use rules::writer::Refusal;
 use std::alloc::Global;
 
@@ -27,14 +30,14 @@ fn most_classes(claim: &[u8]) -> u32 {
     n
 }
 
-// What is said of a claim that tells of a fault: of which row first, if of any.
+// Memory for the call: together with the first words less than 4 MiB.
 #[derive(Drop)]
-enum Answer {
-    Settled,
-    First(Vec<u32>),
-    TooLarge(u32),
+struct Buffers {
+    work: Vec<u32>,
+    out: Vec<u32>,
 }
 
+// The first row, without the mark that there are modules.
 fn first_of(alloc: Global, bits: u8, out: &[u32], a: usize) -> anyhow::Result<Vec<u32>> {
     let mut row = Vec::new(alloc);
     if a <= out.len() && bits < 32 {
@@ -43,17 +46,6 @@ fn first_of(alloc: Global, bits: u8, out: &[u32], a: usize) -> anyhow::Result<Ve
         }
     }
     Ok(row)
-}
-
-fn ask(rt: &HostRuntime, bits: u8, claim: &[u8]) -> anyhow::Result<Answer> {
-    let n = most_classes(claim);
-    let mut work = vec![in rt.alloc(); 0u32; WORK_WORDS]?;
-    let mut out = vec![in rt.alloc(); 0u32; OUT_WORDS]?;
-    Ok(match judge(claim, n, &mut out, &mut work) {
-        Judged::Never => Answer::Settled,
-        Judged::Both(a, _) => Answer::First(first_of(rt.alloc(), bits, &out, a)?),
-        _ => Answer::TooLarge(n),
-    })
 }
 
 fn tell_bytes(rt: &HostRuntime, claim: &[u8]) -> anyhow::Result<()> {
@@ -77,51 +69,175 @@ struct Words<'a> {
     settled: &'a str,
     fails: &'a str,
     step: bool,
+    steps: u32,
+}
+
+// What is asked of the program with each claim.
+#[derive(Clone, Copy)]
+struct Question<'a> {
+    source: &'a Source,
+    show: bool,
+    steps: u32,
+}
+
+fn tell_first(rt: &HostRuntime, asked: Question, words: Words, row: &[u32]) -> anyhow::Result<()> {
+    let name = words.name;
+    let count = row.len();
+    let fails = words.fails;
+    println!(rt; "  {name}: {fails} {count}")?;
+    tell_row(rt, asked.source, row)?;
+    if words.step {
+        tell_after(rt, asked.source, row)
+    } else {
+        tell_steps(rt, asked.source, row, words.steps)
+    }
 }
 
 fn told(
     rt: &HostRuntime,
-    source: &Source,
+    asked: Question,
     words: Words,
-    made: Result<Vec<u8>, Refusal>,
-    show: bool,
-    steps: u32,
+    claim: &[u8],
+    n: u32,
+    verdict: Verdict,
+    out: &[u32],
 ) -> anyhow::Result<()> {
     let name = words.name;
-    let claim = match made {
-        Ok(claim) => claim,
-        Err(refusal) => return tell_refusal(rt, name, &refusal),
-    };
-    match ask(rt, source.rule.bits, &claim)? {
-        Answer::Settled => {
+    match verdict {
+        Verdict::Settled => {
             let settled = words.settled;
             println!(rt; "  {name}: {settled}")?;
         }
-        Answer::First(row) => {
-            let count = row.len();
-            let fails = words.fails;
-            println!(rt; "  {name}: {fails} {count}")?;
-            tell_row(rt, source, &row)?;
-            if words.step {
-                tell_after(rt, source, &row)?;
-            } else {
-                tell_steps(rt, source, &row, steps)?;
-            }
+        Verdict::First(a) => {
+            let row = first_of(rt.alloc(), asked.source.rule.bits, out, a)?;
+            tell_first(rt, asked, words, &row)?;
         }
-        Answer::TooLarge(n) => println!(rt;
+        Verdict::TooLarge => println!(rt;
             "  {name}: too large: more than {n} classes at some part, or more than 4 MiB"
         )?,
     }
-    if show {
-        tell_bytes(rt, &claim)?;
+    if asked.show {
+        tell_bytes(rt, claim)
+    } else {
+        Ok(())
     }
-    Ok(())
+}
+
+fn ask_allowed(rt: &HostRuntime, asked: Question, buffers: &mut Buffers) -> anyhow::Result<()>
+    requires { IsSound asked.source.now.rule }
+{
+    let words = Words {
+        name: "some row is allowed",
+        settled: "no: no row is allowed, of whatever length, so what follows is empty talk",
+        fails: "yes, the first row has length",
+        step: false,
+        steps: 0,
+    };
+    let rule = &asked.source.rule;
+    match allowed_claim(rt.alloc(), rule) {
+        Ok(claim) => {
+            let n = most_classes(&claim);
+            let verdict = judge_allowed(rule, &claim, n, &mut buffers.out, &mut buffers.work);
+            told(rt, asked, words, &claim, n, verdict, &buffers.out)
+        }
+        Err(refusal) => tell_refusal(rt, words.name, &refusal),
+    }
+}
+
+fn ask_stuck(rt: &HostRuntime, asked: Question, buffers: &mut Buffers) -> anyhow::Result<()>
+    requires { IsSound asked.source.now.rule }
+{
+    let words = Words {
+        name: "no allowed row is stuck",
+        settled: "settled for every length",
+        fails: "fails, first at length",
+        step: false,
+        steps: asked.steps,
+    };
+    let rule = &asked.source.rule;
+    match stuck_claim(rt.alloc(), rule) {
+        Ok(claim) => {
+            let n = most_classes(&claim);
+            let verdict = judge_stuck(rule, &claim, n, &mut buffers.out, &mut buffers.work);
+            told(rt, asked, words, &claim, n, verdict, &buffers.out)
+        }
+        Err(refusal) => tell_refusal(rt, words.name, &refusal),
+    }
+}
+
+fn ask_left(rt: &HostRuntime, asked: Question, buffers: &mut Buffers) -> anyhow::Result<()>
+    requires { IsSound asked.source.now.rule }
+{
+    let words = Words {
+        name: "the row after an allowed row is allowed",
+        settled: "settled for every length",
+        fails: "fails, first at length",
+        step: true,
+        steps: 0,
+    };
+    let rule = &asked.source.rule;
+    let changed = changed_bits(rt.alloc(), rule)?;
+    if !has_changed(rule, &changed) {
+        return Ok(());
+    }
+    match left_claim(rt.alloc(), rule, &changed) {
+        Ok(claim) => {
+            let n = most_classes(&claim);
+            let verdict = judge_left(
+                rule,
+                &changed,
+                &claim,
+                n,
+                &mut buffers.out,
+                &mut buffers.work,
+            );
+            told(rt, asked, words, &claim, n, verdict, &buffers.out)
+        }
+        Err(refusal) => tell_refusal(rt, words.name, &refusal),
+    }
+}
+
+fn ask_place(
+    rt: &HostRuntime,
+    asked: Question,
+    name: &str,
+    pattern: &[Literal],
+    buffers: &mut Buffers,
+) -> anyhow::Result<()>
+    requires { IsSound asked.source.now.rule }
+{
+    let words = Words {
+        name,
+        settled: "never, settled for every length",
+        fails: "found, first at length",
+        step: false,
+        steps: asked.steps,
+    };
+    let rule = &asked.source.rule;
+    if !names_bits(rule, pattern) {
+        return Ok(());
+    }
+    match place_claim(rt.alloc(), rule, pattern) {
+        Ok(claim) => {
+            let n = most_classes(&claim);
+            let verdict = judge_place(
+                rule,
+                pattern,
+                &claim,
+                n,
+                &mut buffers.out,
+                &mut buffers.work,
+            );
+            told(rt, asked, words, &claim, n, verdict, &buffers.out)
+        }
+        Err(refusal) => tell_refusal(rt, words.name, &refusal),
+    }
 }
 
 // Whether a pattern asks for the bit.
 fn asks(pattern: &Pattern, j: u8) -> bool {
     for p in &pattern.literals {
-        if p.asked == Asked::Bit(j) {
+        if p.asked == rule::Asked::Bit(j) {
             return true;
         }
     }
@@ -144,8 +260,6 @@ fn changed_bits(alloc: Global, rule: &Rule) -> anyhow::Result<Vec<u8>> {
 }
 
 pub fn judge_all(rt: &HostRuntime, source: &Source, show: bool, steps: u32) -> anyhow::Result<()> {
-    let alloc = rt.alloc();
-    let rule = &source.rule;
     if steps > 0 {
         for row in &source.rows {
             println!(rt; "  a given row")?;
@@ -153,44 +267,25 @@ pub fn judge_all(rt: &HostRuntime, source: &Source, show: bool, steps: u32) -> a
             tell_steps(rt, source, row, steps)?;
         }
     }
-    let some = Words {
-        name: "some row is allowed",
-        settled: "no: no row is allowed, of whatever length, so what follows is empty talk",
-        fails: "yes, the first row has length",
-        step: false,
+    if !is_sound(&source.rule) {
+        println!(rt; "  the rule names bits that a module has not")?;
+        return Ok(());
+    }
+    let mut buffers = Buffers {
+        work: vec![in rt.alloc(); 0u32; WORK_WORDS]?,
+        out: vec![in rt.alloc(); 0u32; OUT_WORDS]?,
     };
-    told(rt, source, some, allowed_claim(alloc, rule), show, 0)?;
-    let stuck = Words {
-        name: "no allowed row is stuck",
-        settled: "settled for every length",
-        fails: "fails, first at length",
-        step: false,
+    let asked = Question {
+        source,
+        show,
+        steps,
     };
-    told(rt, source, stuck, stuck_claim(alloc, rule), show, steps)?;
-    let left = Words {
-        name: "the row after an allowed row is allowed",
-        settled: "settled for every length",
-        fails: "fails, first at length",
-        step: true,
-    };
-    let changed = changed_bits(alloc, rule)?;
-    told(rt, source, left, left_claim(alloc, rule, &changed), show, 0)?;
+    ask_allowed(rt, asked, &mut buffers)?;
+    ask_stuck(rt, asked, &mut buffers)?;
+    ask_left(rt, asked, &mut buffers)?;
     for never in &source.nevers {
-        let name = crate::pictures::text_of(&never.name);
-        let words = Words {
-            name,
-            settled: "never, settled for every length",
-            fails: "found, first at length",
-            step: false,
-        };
-        told(
-            rt,
-            source,
-            words,
-            place_claim(alloc, rule, &never.pattern.literals),
-            show,
-            steps,
-        )?;
+        let name = text_of(&never.name);
+        ask_place(rt, asked, name, &never.pattern.literals, &mut buffers)?;
     }
     Ok(())
 }
