@@ -1,15 +1,14 @@
 -- What is found of the bytes of a formula's claim is found of the formula.
-use Rattle.std.proofs.Common.{◌≡◌, ℕ, ◌+◌, ◌*◌, ◌^◌, ◌<◌, ◌≤◌, List, [], ◌∷◌, length, max, arith}
+use Rattle.std.proofs.Common.{ℕ, ◌^◌, ◌≤◌, List, [], ◌∷◌, length, arith}
 use Rattle.std.proofs.Math.Pow.{pow_mono}
-use Rattle.words.specs.Words.{Word, Columns, sets}
+use Rattle.words.specs.Words.{Word, Columns}
 use Rattle.formulas.specs.declared.name.Name.{Name}
 use Rattle.formulas.specs.declared.formula.Formula.{Formula}
-use Rattle.formulas.specs.Meaning.{Env, Meaning}
 use Rattle.claiming.specs.Claimed.{Claimed, whole, sets_needed}
 use Rattle.settling.specs.declared.first.Found.{Found}
 use Rattle.settling.specs.declared.first.Found.TheVariants.{Shortest, Nothing, Many, Unjudged}
 use Rattle.settling.specs.Finding.{Finds}
-use Rattle.settling.specs.Telling.{Tells, HoldsOf}
+use Rattle.settling.specs.Telling.{Tells}
 
 columns_wider : (j k : ℕ) (w : Word) → j ≤ k → Columns j w → Columns k w
 columns_wider j k [] le h = tt
