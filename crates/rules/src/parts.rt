@@ -60,7 +60,7 @@ pub fn put_place(
     out.somewhere(bits as usize, &place)
 }
 
-// The listed bits are those of the row after, and.
+// That the listed bits are those of the row after, and what is written next.
 pub fn put_step(alloc: Global, out: &mut Writer, rule: &Rule, changed: &[u8]) -> Result<(), Refusal>
     ensures { OnOk result (out.new.bytes.items ≡ out.old.bytes.items ++ after_front rule.now.bits (after_number rule.now.bits changed.now) (lines_of rule.now.table.items) (groups changed.now)) }
 {

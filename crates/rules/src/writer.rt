@@ -230,7 +230,7 @@ impl Writer {
         self.some_row(bits, rest)
     }
 
-    // The listed bits are those of the row after, and.
+    // That the listed bits are those of the row after, and what is written next.
     pub fn group(
         &mut self,
         alloc: Global,
@@ -246,7 +246,7 @@ impl Writer {
         self.each(alloc, x.bits as usize, of_step(alloc, x, y, js, table)?)
     }
 
-    // The listed bits are those of the row after, asked for at most three at a time, and.
+    // That the listed bits are those of the row after, asked for at most three at a time, and what is written next.
     pub fn step(
         &mut self,
         alloc: Global,
