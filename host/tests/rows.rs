@@ -102,17 +102,21 @@ impl Rule {
     }
 }
 
+/// A file of the repository.
+fn read(path: &str) -> String {
+    fs::read_to_string(Path::new(env!("CARGO_MANIFEST_DIR")).join("..").join(path)).unwrap()
+}
+
 #[test]
 fn the_first_stuck_row_has_27_modules() {
-    let root = Path::new(env!("CARGO_MANIFEST_DIR")).join("..");
-    let rule = rule(&fs::read_to_string(root.join("examples/rules/rule-2022.txt")).unwrap());
+    let rule = rule(&read("examples/rules/rule-2022.txt"));
     for length in 1..27 {
         assert!(!rule.first_stuck(length, &mut Vec::new()), "{length} modules");
     }
     let mut row = Vec::new();
     assert!(rule.first_stuck(27, &mut row));
 
-    let printed = fs::read_to_string(root.join("crates/conveyor/stdout")).unwrap();
+    let printed = read("crates/conveyor/stdout");
     let (_, behind) = printed.split_once("no allowed row is stuck: fails, first at length 27\n").unwrap();
     let lines: Vec<&str> = behind.lines().take(rule.bits.len()).collect();
     for (bit, line) in lines.iter().enumerate() {
@@ -123,8 +127,7 @@ fn the_first_stuck_row_has_27_modules() {
 
 #[test]
 fn no_short_row_of_the_mended_rule_is_stuck() {
-    let root = Path::new(env!("CARGO_MANIFEST_DIR")).join("..");
-    let rule = rule(&fs::read_to_string(root.join("examples/rules/rule-mended.txt")).unwrap());
+    let rule = rule(&read("examples/rules/rule-mended.txt"));
     for length in 1..40 {
         assert!(!rule.first_stuck(length, &mut Vec::new()), "{length} modules");
     }
