@@ -7,7 +7,7 @@ ghost use Rattle.tables.specs.Cells.{entry};
 ghost use Rattle.tables.specs.View.{moves};
 ghost use Rattle.firsts.specs.Search.{Room, Among, Numbered, Seeking, Searched};
 
-use tables::cells::{Class, Table};
+use tables::cells::{Class, WordTable};
 
 // Whether class q is among those found.
 fn known(queue: &[u32], number: &[u32], found: usize, q: Class) -> bool
@@ -47,7 +47,7 @@ fn enter(
 
 // Follows column a from the class of number i, and returns how many classes are found then.
 fn follow(
-    t: Table,
+    t: WordTable,
     queue: &mut [u32],
     number: &mut [u32],
     prev: &mut [u32],
@@ -56,13 +56,14 @@ fn follow(
     i: usize,
     a: u32,
 ) -> usize
-    requires room { Room t.classes queue.old number.old prev.old via.old }
-    requires here { (i < found) × (a < t.width) }
-    requires so_far { Seeking t.sets t.classes (moves t) found queue.old number.old prev.old via.old i a }
+    requires few { t.table.classes < 2 ^ 32 }
+    requires room { Room t.table.classes queue.old number.old prev.old via.old }
+    requires here { (i < found) × (a < t.table.width) }
+    requires so_far { Seeking t.sets t.table.classes (moves t.table) found queue.old number.old prev.old via.old i a }
     ensures more { found ≤ result }
-    ensures so_far { Seeking t.entry.sets t.entry.classes (moves t.entry) result queue.new number.new prev.new via.new i (a + 1) }
+    ensures so_far { Seeking t.entry.sets t.entry.table.classes (moves t.entry.table) result queue.new number.new prev.new via.new i (a + 1) }
 {
-    let q = t.next(Class(queue[i]), a);
+    let q = t.table.next(Class(queue[i]), a);
     if known(queue, number, found, q) {
         return found;
     }
@@ -72,7 +73,7 @@ fn follow(
 
 // Follows all columns from the class of number i, the least first, and returns how many classes are found then.
 fn follow_all(
-    t: Table,
+    t: WordTable,
     queue: &mut [u32],
     number: &mut [u32],
     prev: &mut [u32],
@@ -80,14 +81,15 @@ fn follow_all(
     found: usize,
     i: usize,
 ) -> usize
-    requires room { Room t.classes queue.old number.old prev.old via.old }
+    requires few { t.table.classes < 2 ^ 32 }
+    requires room { Room t.table.classes queue.old number.old prev.old via.old }
     requires here { i < found }
-    requires so_far { Seeking t.sets t.classes (moves t) found queue.old number.old prev.old via.old i 0 }
+    requires so_far { Seeking t.sets t.table.classes (moves t.table) found queue.old number.old prev.old via.old i 0 }
     ensures more { found ≤ result }
-    ensures so_far { Seeking t.entry.sets t.entry.classes (moves t.entry) result queue.new number.new prev.new via.new (i + 1) 0 }
+    ensures so_far { Seeking t.entry.sets t.entry.table.classes (moves t.entry.table) result queue.new number.new prev.new via.new (i + 1) 0 }
 {
     let mut count = found;
-    for a in 0..t.width as u32 {
+    for a in 0..t.table.width as u32 {
         count = follow(t, queue, number, prev, via, count, i, a);
     }
     count
@@ -95,15 +97,16 @@ fn follow_all(
 
 // Finds all classes, and returns how many there are. Memory, in words, for m classes: m each for queue, number, prev and via, which may hold anything.
 pub fn search(
-    t: Table,
+    t: WordTable,
     queue: &mut [u32],
     number: &mut [u32],
     prev: &mut [u32],
     via: &mut [u32],
 ) -> usize
-    requires some { 0 < t.classes }
-    requires room { Room t.classes queue.old number.old prev.old via.old }
-    ensures { Searched t.entry.sets t.entry.classes (moves t.entry) result queue.new prev.new via.new }
+    requires some { 0 < t.table.classes }
+    requires few { t.table.classes < 2 ^ 32 }
+    requires room { Room t.table.classes queue.old number.old prev.old via.old }
+    ensures { Searched t.entry.sets t.entry.table.classes (moves t.entry.table) result queue.new prev.new via.new }
 {
     queue[0] = 0;
     number[0] = 0;

@@ -11,7 +11,7 @@ use super::explore::explore;
 use super::kind::{Kind, ends};
 use joining::join::join;
 use joining::quotient::quotient;
-use tables::cells::Table;
+use tables::cells::{Table, WordTable};
 
 // Which of the states found accept.
 fn accept_states(kind: Kind, at: &[u32], count: usize, accept: &mut [u32])
@@ -49,17 +49,19 @@ pub fn leaf(
 {
     let count = explore(kind, k, at, states);
     accept_states(kind, at, count, accepting);
-    let t = Table {
-        rows: states,
-        accept: accepting,
-        classes: count,
+    let t = WordTable {
+        table: Table {
+            rows: states,
+            accept: accepting,
+            classes: count,
+            width: 1usize << k,
+        },
         sets: k,
-        width: 1usize << k,
     };
     let n = join(t, cls, firsts, cur, lefts, rights, index);
     if n > most {
         return None;
     }
-    quotient(t, cls, firsts, n, rows, accept);
+    quotient(t.table, cls, firsts, n, rows, accept);
     Some(n)
 }

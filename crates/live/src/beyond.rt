@@ -12,7 +12,7 @@ ghost use Rattle.tables.specs.Cells.{accepts};
 ghost use Rattle.tables.specs.View.{moves, accepting};
 ghost use Rattle.live.specs.Beyond.{Comers, Queued, Grown, Marking, by_column};
 
-use tables::cells::{Class, Table};
+use tables::cells::{Class, Table, WordTable};
 use words::bits::{Set, with_bit};
 
 // For one column, the classes that go by it to each class, as linked lists.
@@ -34,6 +34,7 @@ fn clear(words: &mut [u32], n: usize)
 
 // Lists, for each class, the classes that go to it by column a. Classes are put in rising, each before those that its list has.
 fn comers(t: Table, a: u32, heads: &mut [u32], links: &mut [u32])
+    requires few { t.classes < 2 ^ 32 }
     requires column { a < t.width }
     requires room { (t.classes ≤ length heads.old) × (t.classes ≤ length links.old) }
     ensures { Comers t.entry.classes t.entry.classes (by_column t.entry.rows.now t.entry.width a) heads.new links.new }
@@ -87,6 +88,7 @@ fn mark_comers(
 
 // Marks the accepting classes, in memory with any contents, and puts them into the queue. The queue's tail.
 fn mark_accepting(t: Table, marks: &mut [u32], queue: &mut [u32]) -> usize
+    requires few { t.classes < 2 ^ 32 }
     requires room { (t.classes ≤ length marks.old) × (t.classes ≤ length queue.old) }
     ensures queued { Queued t.entry.classes marks.new queue.new result }
     ensures accepting { (q : ℕ) → q < t.entry.classes → accepts marks.new q ≡ accepting t.entry q }
@@ -137,7 +139,7 @@ fn mark_behind(
 // Scratch, in words, for m classes: m each for heads0, links0, heads1, links1 and queue. Any of them may hold anything.
 // Marks in `completed`, by 1, each class that is completed by columns in which at most set x has a place; those that are not have other numbers.
 pub fn beyond(
-    t: Table,
+    t: WordTable,
     x: Set,
     completed: &mut [u32],
     heads0: &mut [u32],
@@ -146,15 +148,16 @@ pub fn beyond(
     links1: &mut [u32],
     queue: &mut [u32],
 )
+    requires few { t.table.classes < 2 ^ 32 }
     requires set { x.0 < t.sets }
-    requires room { (t.classes ≤ length completed.old) × (t.classes ≤ length queue.old) }
-    requires room0 { (t.classes ≤ length heads0.old) × (t.classes ≤ length links0.old) }
-    requires room1 { (t.classes ≤ length heads1.old) × (t.classes ≤ length links1.old) }
-    ensures { (q : ℕ) → q < t.entry.classes → (accepts completed.new q ≡ true) ↔ Completes x.0 (moves t.entry) (accepting t.entry) q }
+    requires room { (t.table.classes ≤ length completed.old) × (t.table.classes ≤ length queue.old) }
+    requires room0 { (t.table.classes ≤ length heads0.old) × (t.table.classes ≤ length links0.old) }
+    requires room1 { (t.table.classes ≤ length heads1.old) × (t.table.classes ≤ length links1.old) }
+    ensures { (q : ℕ) → q < t.entry.table.classes → (accepts completed.new q ≡ true) ↔ Completes x.0 (moves t.entry.table) (accepting t.entry.table) q }
 {
     let with_x = lone(x, t.sets);
-    comers(t, 0, heads0, links0);
-    comers(t, with_x, heads1, links1);
+    comers(t.table, 0, heads0, links0);
+    comers(t.table, with_x, heads1, links1);
     let lists0 = Lists {
         heads: heads0,
         links: links0,
@@ -163,10 +166,12 @@ pub fn beyond(
         heads: heads1,
         links: links1,
     };
-    let mut tail = mark_accepting(t, completed, queue);
+    let mut tail = mark_accepting(t.table, completed, queue);
     let mut i = 0;
     while i < tail {
-        tail = mark_behind(t, x, with_x, lists0, lists1, completed, queue, tail, i);
+        tail = mark_behind(
+            t.table, x, with_x, lists0, lists1, completed, queue, tail, i,
+        );
         i += 1;
     }
 }

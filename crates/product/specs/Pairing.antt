@@ -14,16 +14,16 @@ steps f = pair_moves f.left f.right
 
 -- memory for the rows of all pairs, for their two halves and for their index
 pub record Room (f : Factors) (rows lefts rights index : List ℕ) : Type 0 where
-  pub rows_fit : f.most * f.left.width ≤ length rows
+  pub rows_fit : f.most * f.left.table.width ≤ length rows
   pub lefts_fit : f.most ≤ length lefts
   pub rights_fit : f.most ≤ length rights
-  pub index_fits : f.left.classes * f.right.classes ≤ length index
+  pub index_fits : f.left.table.classes * f.right.table.classes ≤ length index
 
 -- the search has come to row i, column a: `count` pairs are numbered, and all cells before this one are written
 pub record Pairing (f : Factors) (rows lefts rights index : List ℕ) (count i a : ℕ) : Type 0 where
   pub few : count ≤ f.most
-  pub numbered : Numbered f.left.classes f.right.classes lefts rights index count
-  pub so_far : Searching f.left.sets (steps f) (pair 0 0) count (pair_at lefts rights) rows f.left.width i a
+  pub numbered : Numbered f.left.table.classes f.right.table.classes lefts rights index count
+  pub so_far : Searching f.left.sets (steps f) (pair 0 0) count (pair_at lefts rights) rows f.left.table.width i a
 
 -- the same within a row, that of the pair (p, q)
 pub record InRow (f : Factors) (rows lefts rights index : List ℕ) (count i p q a : ℕ) : Type 0 where
@@ -34,9 +34,9 @@ pub record InRow (f : Factors) (rows lefts rights index : List ℕ) (count i p q
 -- the search is over: m pairs are numbered, and each has its row
 pub record Found (f : Factors) (rows lefts rights : List ℕ) (m : ℕ) : Type 0 where
   pub few : m ≤ f.most
-  pub left : (i : ℕ) → i < m → slice_index lefts i < f.left.classes
-  pub right : (i : ℕ) → i < m → slice_index rights i < f.right.classes
-  pub explored : Explored f.left.sets (steps f) (pair 0 0) m (pair_at lefts rights) (entry rows f.left.width)
+  pub left : (i : ℕ) → i < m → slice_index lefts i < f.left.table.classes
+  pub right : (i : ℕ) → i < m → slice_index rights i < f.right.table.classes
+  pub explored : Explored f.left.sets (steps f) (pair 0 0) m (pair_at lefts rights) (entry rows f.left.table.width)
 
 -- more pairs are reached than there may be
 abbrev pub TooManyPairs : Factors → Type 0

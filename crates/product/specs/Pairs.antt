@@ -3,16 +3,16 @@ use Rattle.std.specs.Prelude.{◌≡◌, ℕ, ◌<◌, ◌≤◌, ◌&&◌, List
 use Rattle.automata.specs.Product.{Pair, pair, step_pair}
 use Rattle.automata.specs.Search.{Explored}
 use Rattle.tables.specs.Cells.{entry, accepts}
-use Rattle.tables.specs.declared.cells.Table.{Table}
+use Rattle.tables.specs.declared.cells.WordTable.{WordTable}
 use Rattle.tables.specs.Numbering.{pair_at}
 use Rattle.tables.specs.View.{moves, accepting}
 
 -- where a column leads from a pair of classes
-abbrev pub pair_moves : Table → Table → Pair → ℕ → Pair
-pair_moves a b = step_pair (moves a) (moves b)
+abbrev pub pair_moves : WordTable → WordTable → Pair → ℕ → Pair
+pair_moves a b = step_pair (moves a.table) (moves b.table)
 
 -- the product of the tables a and b, with m classes, stands in `rows` and `accept`: class i is the pair with number i
-pub record Paired (most : ℕ) (a b : Table) (rows accept lefts rights : List ℕ) (m : ℕ) : Type 0 where
+pub record Paired (most : ℕ) (a b : WordTable) (rows accept lefts rights : List ℕ) (m : ℕ) : Type 0 where
   pub few : m ≤ most
-  pub explored : Explored a.sets (pair_moves a b) (pair 0 0) m (pair_at lefts rights) (entry rows a.width)
-  pub accepted : (i : ℕ) → i < m → accepts accept i ≡ (accepting a (slice_index lefts i) && accepting b (slice_index rights i))
+  pub explored : Explored a.sets (pair_moves a b) (pair 0 0) m (pair_at lefts rights) (entry rows a.table.width)
+  pub accepted : (i : ℕ) → i < m → accepts accept i ≡ (accepting a.table (slice_index lefts i) && accepting b.table (slice_index rights i))

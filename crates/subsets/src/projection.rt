@@ -14,12 +14,12 @@ use crate::part::Projection;
 use crate::successors::{follow, put_live};
 use bitsets::bitrows::{clear, meets};
 use bitsets::intern::intern;
-use tables::cells::{Class, Table, get, put};
+use tables::cells::{Class, WordTable, get, put};
 use words::bits::{Set, has_bit, with_bit, without_bit};
 
 // Notes whether set n accepts: whether one of its classes is completed.
 fn mark(p: &Projection, sets: &[u32], accept: &mut [u32], n: usize)
-    requires inside { Below p.now.t.classes (member sets.now p.now.w n) }
+    requires inside { Below p.now.t.table.classes (member sets.now p.now.w n) }
     requires room { (n * p.now.w + p.now.w ≤ length sets.now) × (n < length accept.old) }
     ensures told { accepts accept.new n ≡ says_of p.now (member sets.now p.now.w n) }
     ensures kept { (j : ℕ) → j < n → slice_index accept.new j ≡ slice_index accept.old j }
@@ -34,32 +34,32 @@ fn mark(p: &Projection, sets: &[u32], accept: &mut [u32], n: usize)
 
 // Row i at a column with bit x: leads where it leads without, and that is written already.
 fn copy(p: &Projection, rows: &mut [u32], i: usize, a: u32)
-    requires room { p.now.most * p.now.t.width ≤ length rows.old }
-    requires place { (i < p.now.most) × (a < p.now.t.width) }
-    ensures { rows.new ≡ put_entry rows.old p.now.t.width i a (entry rows.old p.now.t.width i (put_bit p.now.x.0 false a)) }
+    requires room { p.now.most * p.now.t.table.width ≤ length rows.old }
+    requires place { (i < p.now.most) × (a < p.now.t.table.width) }
+    ensures { rows.new ≡ put_entry rows.old p.now.t.table.width i a (entry rows.old p.now.t.table.width i (put_bit p.now.x.0 false a)) }
 {
     let to = get(
         rows,
         p.most,
-        p.t.width,
+        p.t.table.width,
         Class(i as u32),
         without_bit(a, p.x),
     );
-    put(rows, p.most, p.t.width, Class(i as u32), a, to);
+    put(rows, p.most, p.t.table.width, Class(i as u32), a, to);
 }
 
 // Writes the set that follows set i at column a, a column without bit x, into row n.
 fn next_set(p: &Projection, sets: &mut [u32], n: usize, i: usize, a: u32)
-    requires inside { Below p.now.t.classes (member sets.old p.now.w i) }
+    requires inside { Below p.now.t.table.classes (member sets.old p.now.w i) }
     requires order { i < n }
     requires room { n * p.now.w + p.now.w ≤ length sets.old }
-    requires column { a < p.now.t.width }
+    requires column { a < p.now.t.table.width }
     requires without { bit p.now.x.0 a ≡ false }
     ensures made { member sets.new p.now.w n ≡ step_of p.now (member sets.old p.now.w i) a }
     ensures kept { (j : ℕ) → j < n → row_at sets.new p.now.w j ≡ row_at sets.old p.now.w j }
 {
     let b = with_bit(a, p.x);
-    follow(p.t, sets, p.w, i, n, a, b, p.dead);
+    follow(p.t.table, sets, p.w, i, n, a, b, p.dead);
 }
 
 // Row i at column a, a column without bit x: works the set out, and numbers it where it is new. None where it is one too many.
@@ -82,7 +82,14 @@ fn work_out(
     next_set(p, sets, n, i, a);
     match intern(sets, p.w, n, heads, links, buckets) {
         Some(j) => {
-            put(rows, p.most, p.t.width, Class(i as u32), a, Class(j as u32));
+            put(
+                rows,
+                p.most,
+                p.t.table.width,
+                Class(i as u32),
+                a,
+                Class(j as u32),
+            );
             Some(n)
         }
         None => {
@@ -90,7 +97,14 @@ fn work_out(
                 return None;
             }
             mark(p, sets, accept, n);
-            put(rows, p.most, p.t.width, Class(i as u32), a, Class(n as u32));
+            put(
+                rows,
+                p.most,
+                p.t.table.width,
+                Class(i as u32),
+                a,
+                Class(n as u32),
+            );
             Some(n + 1)
         }
     }
@@ -135,7 +149,7 @@ fn row(
     ensures { MatchOption result (Excess p.now) (λ m. Further p.now rows.new accept.new sets.new heads.new links.new buckets.new n m (i + 1) 0) }
 {
     let mut m = n;
-    for a in 0..p.t.width as u32 {
+    for a in 0..p.t.table.width as u32 {
         match column(p, rows, accept, sets, heads, links, buckets, m, i, a) {
             Some(found) => m = found,
             None => return None,
@@ -203,7 +217,7 @@ fn search(
 // Row i of the table is written once row i of `sets` is known. The set that follows is written behind the last one, and stays there if it is new.
 // Scratch, in words, for n = most and m classes of the part: (n + 1) * ceil(m / 32) for sets, n + 1 each for links and buckets, and one or more for heads, better n + 1. Any of them may hold anything.
 pub fn subsets(
-    t: Table,
+    t: WordTable,
     x: Set,
     dead: usize,
     completed: &[u32],
@@ -216,14 +230,14 @@ pub fn subsets(
     buckets: &mut [u32],
 ) -> Option<usize>
     requires set { x.0 < t.sets }
-    requires classes { (0 < t.classes) × (t.classes ≤ length completed.now) }
-    requires most { (t.classes ≤ most) × (most < 2 ^ 32) }
-    requires table { (most * t.width ≤ length rows.old) × (most ≤ length accept.old) }
-    requires sets { (most + 1) * words t.classes ≤ length sets.old }
+    requires classes { (0 < t.table.classes) × (t.table.classes ≤ length completed.now) }
+    requires most { (t.table.classes ≤ most) × (most < 2 ^ 32) }
+    requires table { (most * t.table.width ≤ length rows.old) × (most ≤ length accept.old) }
+    requires sets { (most + 1) * words t.table.classes ≤ length sets.old }
     requires chains { (0 < length heads.old) × (most < length links.old) × (most < length buckets.old) }
-    ensures { MatchOption result (TooMany t.entry.sets (step_set t.entry.classes (moves t.entry) (lives t.entry.classes dead) x.0) (start_set (lives t.entry.classes dead)) most) (Projected t.entry dead x.0 (accepts completed.now) most rows.new accept.new sets.new) }
+    ensures { MatchOption result (TooMany t.entry.sets (step_set t.entry.table.classes (moves t.entry.table) (lives t.entry.table.classes dead) x.0) (start_set (lives t.entry.table.classes dead)) most) (Projected t.entry dead x.0 (accepts completed.now) most rows.new accept.new sets.new) }
 {
-    let w = (t.classes + 31) / 32;
+    let w = (t.table.classes + 31) / 32;
     let p = Projection {
         t,
         x,

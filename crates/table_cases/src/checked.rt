@@ -1,15 +1,15 @@
 // A table that is tested as the program runs: that there is room for it, and that every entry is the number of a class.
-ghost use Rattle.std.specs.Prelude.{◌≡◌, ℕ, ◌*◌, ◌^◌, ◌<◌, ◌≤◌, true, length};
+ghost use Rattle.std.specs.Prelude.{◌≡◌, ℕ, ◌*◌, ◌^◌, ◌<◌, ◌≤◌, ◌↔◌, IsTrue, length};
 ghost use Rattle.tables.specs.Cells.{entry};
 ghost use Rattle.table_cases.specs.Checked.{Written};
 
-use tables::cells::{Class, Table, get};
+use tables::cells::{Class, Table, WordTable, get};
 
 // Whether every entry of row q is the number of a class.
 fn row_below(rows: &[u32], classes: usize, width: usize, q: usize) -> bool
     requires room { classes * width ≤ length rows.now }
     requires small { (q < classes) × ((classes < 2 ^ 32) × (width < 2 ^ 32)) }
-    ensures { result ≡ true → (a : ℕ) → a < width → entry rows.now width q a < classes }
+    ensures { IsTrue result ↔ ((a : ℕ) → a < width → entry rows.now width q a < classes) }
 {
     for a in 0..width {
         let to = get(rows, classes, width, Class(q as u32), a as u32);
@@ -23,7 +23,7 @@ fn row_below(rows: &[u32], classes: usize, width: usize, q: usize) -> bool
 // Whether these words are a table over the columns of k sets.
 // Invariant: every entry of the rows before q is the number of a class.
 pub fn is_table(rows: &[u32], accept: &[u32], classes: usize, k: u32) -> bool
-    ensures { result ≡ true → Written rows.now accept.now classes k }
+    ensures { IsTrue result ↔ Written rows.now accept.now classes k }
 {
     if k > 12 || classes == 0 || classes > 4294967295 {
         return false;
@@ -41,19 +41,21 @@ pub fn is_table(rows: &[u32], accept: &[u32], classes: usize, k: u32) -> bool
 }
 
 // The table that these words are.
-pub fn table<'a>(rows: &'a [u32], accept: &'a [u32], classes: usize, k: u32) -> Table<'a>
+pub fn table<'a>(rows: &'a [u32], accept: &'a [u32], classes: usize, k: u32) -> WordTable<'a>
     requires { Written rows.now accept.now classes k }
-    ensures classes { result.classes ≡ classes }
+    ensures classes { result.table.classes ≡ classes }
     ensures sets { result.sets ≡ k }
-    ensures width { result.width ≡ 2 ^ k }
-    ensures rows { result.rows.now ≡ rows.now }
-    ensures accept { result.accept.now ≡ accept.now }
+    ensures width { result.table.width ≡ 2 ^ k }
+    ensures rows { result.table.rows.now ≡ rows.now }
+    ensures accept { result.table.accept.now ≡ accept.now }
 {
-    Table {
-        rows,
-        accept,
-        classes,
+    WordTable {
+        table: Table {
+            rows,
+            accept,
+            classes,
+            width: 1usize << k,
+        },
         sets: k,
-        width: 1usize << k,
     }
 }

@@ -9,22 +9,22 @@ use firsts::first::first;
 use firsts::search::search;
 use firsts::spell::{word_length, write_word};
 use std::io;
-use tables::cells::Table;
+use tables::cells::WordTable;
 
 // The first word that the table accepts (`wanted` is true) or does not (false), from the numbers of the search.
 fn word_case(
     rt: &HostRuntime,
-    t: Table,
+    t: WordTable,
     queue: &[u32],
     prev: &[u32],
     via: &[u32],
     found: usize,
     wanted: bool,
 ) -> io::Result<()>
-    requires searched { Searched t.sets t.classes (moves t) found queue.now prev.now via.now }
+    requires searched { Searched t.sets t.table.classes (moves t.table) found queue.now prev.now via.now }
     requires room { (found ≤ length queue.now) × ((found ≤ length prev.now) × (found ≤ length via.now)) }
 {
-    let Some(j) = first(t, queue, found, wanted) else {
+    let Some(j) = first(t.table, queue, found, wanted) else {
         return println!(rt; "first {wanted}: none");
     };
     let n = word_length(prev, j);

@@ -29,7 +29,7 @@ pub fn join_case(rt: &HostRuntime) -> io::Result<()> {
     tell_numbers(rt, &firsts, n)?;
     println!(rt; "")?;
     let (mut new_rows, mut new_accept) = ([7u32; 64], [7u32; 64]);
-    quotient(t, &cls, &firsts, n, &mut new_rows, &mut new_accept);
+    quotient(t.table, &cls, &firsts, n, &mut new_rows, &mut new_accept);
     print!(rt; "quotient: ")?;
     tell_table(rt, &new_rows, &new_accept, n)
 }

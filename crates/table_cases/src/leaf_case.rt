@@ -6,7 +6,7 @@ use leaves::kind::Kind;
 use leaves::leaf::leaf;
 use live::dead::dead;
 use std::io;
-use tables::cells::Table;
+use tables::cells::{Table, WordTable};
 use words::bits::Set;
 
 // The claim that set 0 has exactly one place, which is C, with at most `most` classes.
@@ -37,12 +37,14 @@ pub fn leaf_case(rt: &HostRuntime, most: usize) -> io::Result<()>
         return println!(rt; "more");
     };
     tell_table(rt, &rows, &accept, classes)?;
-    let t = Table {
-        rows: &rows,
-        accept: &accept,
-        classes,
+    let t = WordTable {
+        table: Table {
+            rows: &rows,
+            accept: &accept,
+            classes,
+            width: 2,
+        },
         sets: 1,
-        width: 2,
     };
     let q = dead(t);
     println!(rt; "dead: {q}")

@@ -6,8 +6,8 @@ use Rattle.firsts.proofs.search.follow_all.Goals as goal
 
 pub returns-clause-so_far : goal.returns-clause-so_far
 returns-clause-so_far c =
-    let t = c.args.t in
+    let t = c.args.t.table in
     let s = c.loop-a in
-    let all : s.a ≡ 2 ^ t.sets = omega arith in
-    seeking_row t.sets t.classes (entry t.rows.now t.width) s.count s.queue s.number s.prev s.via c.args.i
-    (subst (Seeking t.sets t.classes (entry t.rows.now t.width) s.count s.queue s.number s.prev s.via c.args.i) all s.invariant.1)
+    let all : s.a ≡ 2 ^ c.args.t.sets = omega arith in
+    seeking_row c.args.t.sets t.classes (entry t.rows.now t.width) s.count s.queue s.number s.prev s.via c.args.i
+    (subst (Seeking c.args.t.sets t.classes (entry t.rows.now t.width) s.count s.queue s.number s.prev s.via c.args.i) all s.invariant.1)

@@ -4,7 +4,7 @@ use Rattle.firsts.specs.Search.{Seeking}
 use Rattle.firsts.proofs.search.search.Given as goal
 
 abbrev pub invariant-loop-i : goal.invariant-loop-i
-invariant-loop-i l = (l.i ≤ l.found) × Seeking l.t.sets l.t.classes (entry l.t.rows.now l.t.width) l.found l.queue l.number l.prev l.via l.i 0
+invariant-loop-i l = (l.i ≤ l.found) × Seeking l.t.sets l.t.table.classes (entry l.t.table.rows.now l.t.table.width) l.found l.queue l.number l.prev l.via l.i 0
 
 abbrev pub decreases-loop-i : goal.decreases-loop-i
-decreases-loop-i l = l.t.classes - l.i
+decreases-loop-i l = l.t.table.classes - l.i

@@ -6,17 +6,17 @@ use Rattle.live.proofs.dead.dead.Goals as goal
 
 pub returns-then-is_dead-clause-live : goal.returns-then-is_dead-clause-live
 returns-then-is_dead-clause-live c =
-    let t = c.args.t in
+    let t = c.args.t.table in
     let q = c.loop-q.q in
     let δ = entry t.rows.now t.width in
     let f = accepts t.accept.now in
-    let nothing = dead_stays t.sets δ f q (c.if-is_dead.ensures.rejects refl) (λ a h. c.if-is_dead.ensures.stays refl a (omega arith)) in
-    lives_but t.sets t.classes δ f c.requires.connected c.requires.collapsed q (omega arith) nothing
+    let nothing = dead_stays c.args.t.sets δ f q (c.if-is_dead.ensures.rejects refl) (λ a h. c.if-is_dead.ensures.stays refl a (omega arith)) in
+    lives_but c.args.t.sets t.classes δ f c.requires.connected c.requires.collapsed q (omega arith) nothing
 
 pub loop-q-preserved : goal.loop-q-preserved
 loop-q-preserved c =
-    let t = c.args.t in
-    let k = t.sets in
+    let t = c.args.t.table in
+    let k = c.args.t.sets in
     let q = c.loop-q.q in
     let δ = entry t.rows.now t.width in
     let f = accepts t.accept.now in

@@ -12,7 +12,7 @@ intern-requires-clause-interned c = interned_start c.start_set.new.sets c.args.p
 pub mark-requires-clause-inside : goal.mark-requires-clause-inside
 mark-requires-clause-inside c =
     let p = c.args.p.now in
-    subst (Below p.t.classes) (sym c.start_set.ensures) (start_below p.t.classes p.dead (entry p.t.rows.now p.t.width) p.x.0)
+    subst (Below p.t.table.classes) (sym c.start_set.ensures) (start_below p.t.table.classes p.dead (entry p.t.table.rows.now p.t.table.width) p.x.0)
 
 pub returns : goal.returns
 returns c = found_start c.mark.new.accept c.intern.result c.start_set.ensures c.intern.ensures c.mark.ensures.told

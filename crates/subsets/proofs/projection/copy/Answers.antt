@@ -18,5 +18,5 @@ copied rows rows' width i a b b' to e f g = e ∙ ap (put_entry rows width i a) 
 pub returns : goal.returns
 returns c =
     let p = c.args.p.now in
-    copied c.args.rows.now c.put.new.rows p.t.width c.args.i c.args.a c.without_bit.result _ c.get-to.result.0 c.put.ensures c.get-to.ensures
+    copied c.args.rows.now c.put.new.rows p.t.table.width c.args.i c.args.a c.without_bit.result _ c.get-to.result.0 c.put.ensures c.get-to.ensures
     (put_is p.x.0 c.args.a c.without_bit.result false c.without_bit.ensures.here c.without_bit.ensures.others)

@@ -9,7 +9,7 @@ use Rattle.subsets.proofs.projection.mark.Goals.{then-meets, else-meets}
 pub meets-requires-clause-inside : goal.meets-requires-clause-inside
 meets-requires-clause-inside c q e =
     let p = c.args.p.now in
-    let P : List ℕ → Type 0 = λ x. Below p.t.classes (has x) in
+    let P : List ℕ → Type 0 = λ x. Below p.t.table.classes (has x) in
     let h = subst P (sym (row_part c.args.sets.now p.w c.args.n)) c.requires.inside q e in
     omega (arith, p.completed_fits)
 
@@ -23,4 +23,4 @@ returns-clause-told c =
       | then-meets w ↦ inl (w.if-meets.true, w.accept-is)
       | else-meets w ↦ inr (w.if-meets.false, w.accept-is)
     ] in
-    marked c.args.accept.now c.args.n c.if-meets.accept c.meets.result c.requires.room.1 w ∙ meets_says p.t.classes f _ c.meets.result c.requires.inside d
+    marked c.args.accept.now c.args.n c.if-meets.accept c.meets.result c.requires.room.1 w ∙ meets_says p.t.table.classes f _ c.meets.result c.requires.inside d
