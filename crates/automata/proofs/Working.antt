@@ -86,15 +86,15 @@ module _ (k n : ℕ) (c e : C) (m m₁ : ℕ) (δ δ₁ : ℕ → ℕ → ℕ) (
 
 -- some: the sets of live classes; g is the acceptance that the joining saw
 module _ (k n x : ℕ) (c : C) (m : ℕ) (δ : ℕ → ℕ → ℕ) (f : ℕ → Bool) (t : Worked k n c m δ f) (h : x < k) (live : ℕ → Bool) (bounded : (q : ℕ) → live q ≡ true → q < m) (is : (q : ℕ) → q < m → (live q ≡ true) ↔ Live k δ f q) where
-  left_some : (u v : Word) → SameLeft k (Beyond x (Of c)) u v → SameLeft k (Of (some x c)) u v
+  pub left_some : (u v : Word) → SameLeft k (Beyond x (Of c)) u v → SameLeft k (Of (some x c)) u v
   left_some u v l y hy = (λ p. (some_beyond x c (v ++ y)).1 ((l y hy).0 ((some_beyond x c (u ++ y)).0 p)), λ p. (some_beyond x c (u ++ y)).1 ((l y hy).1 ((some_beyond x c (v ++ y)).0 p)))
 
-  some_to : (u v : Word) → Columns k u → Columns k v → run (step_set m δ live x) (start_set live) u ≡ run (step_set m δ live x) (start_set live) v → Apart k (some x c) u v
+  pub some_to : (u v : Word) → Columns k u → Columns k v → run (step_set m δ live x) (start_set live) u ≡ run (step_set m δ live x) (start_set live) v → Apart k (some x c) u v
   some_to u v hu hv e =
       let sb = subset_same k x m δ f live h t.table.connected is (Of c) t.table u v hu hv (λ q hq. ap (λ X. X q) e) in
       (left_some u v (but_left k x (Of c) h u v hu hv sb), sb)
 
-  some_from : (u v : Word) → Columns k u → Columns k v → Apart k (some x c) u v → run (step_set m δ live x) (start_set live) u ≡ run (step_set m δ live x) (start_set live) v
+  pub some_from : (u v : Word) → Columns k u → Columns k v → Apart k (some x c) u v → run (step_set m δ live x) (start_set live) u ≡ run (step_set m δ live x) (start_set live) v
   some_from u v hu hv a = subset_ext m δ live x bounded u v (subset_apart k x m δ f live h t.table.connected is (Of c) t.table t.collapsed u v hu hv a.1)
 
   pub many_some : TooMany k (step_set m δ live x) (start_set live) n → Fits k n (some x c) → ⊥
