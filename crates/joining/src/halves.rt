@@ -7,6 +7,7 @@ ghost use Rattle.joining.specs.Pairs.{Room};
 ghost use Rattle.joining.specs.Parts.{Partition};
 
 use crate::parts::{copy, renumber};
+use splitting::scratch::Scratch;
 use splitting::split::split;
 use tables::cells::{Table, WordTable};
 
@@ -42,9 +43,19 @@ pub fn join_by_splitting(
     let (cut, rest) = rest.split_at_mut(m);
     let (touched, rest) = rest.split_at_mut(m);
     let (members, repeats) = rest.split_at_mut(m);
-    split(
-        t, cls, cur, lefts, firsts, rights, cut, touched, members, heads, links, repeats,
-    );
+    let mut scratch = Scratch {
+        order: &mut *cur,
+        place: &mut *lefts,
+        begin: &mut *firsts,
+        end: &mut *rights,
+        cut,
+        touched,
+        members,
+        heads,
+        links,
+        repeats,
+    };
+    split(t, cls, &mut scratch);
     copy(cls, m, cur);
     let count = renumber(t.table, 0, cls, cur, firsts, lefts, rights, index);
     copy(cur, m, cls);

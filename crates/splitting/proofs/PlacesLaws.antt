@@ -267,25 +267,25 @@ copied order members self f t h k e i l =
     let n : length self ≡ t - f = ap length e ∙ length-take-le (t - f) (drop f order) (simp length-drop (omega arith)) in
     get_or_append_left self (drop (t - f) members) 0 i (omega arith) ∙ ap (λ s. get_or s i 0) e ∙ part_at order f (t - f) i l
 
-pub members_listed : {m n : ℕ} {order place part begin end cut : List ℕ} → Arranged m n order place part begin end cut → (b : ℕ) → b < n → (members self : List ℕ) → m ≤ length members → self ≡ take (get_or end b 0 - get_or begin b 0) (drop (get_or begin b 0) order) → Members m part b (self ++ drop (get_or end b 0 - get_or begin b 0) members) (get_or end b 0 - get_or begin b 0)
-members_listed {m} {n} {order} {place} {part} {begin} {end} a b h members self room e =
+pub members_listed : {m n : ℕ} {order place part begin end : List ℕ} → Inverse m order place → Parts m n place part begin end → (b : ℕ) → b < n → (members self : List ℕ) → m ≤ length members → self ≡ take (get_or end b 0 - get_or begin b 0) (drop (get_or begin b 0) order) → Members m part b (self ++ drop (get_or end b 0 - get_or begin b 0) members) (get_or end b 0 - get_or begin b 0)
+members_listed {m} {n} {order} {place} {part} {begin} {end} inv ps b h members self room e =
     let f = get_or begin b 0 in
     let t = get_or end b 0 in
-    let w : t ≤ m = a.parts.within b h in
-    let s : f < t = a.parts.some b h in
-    let o : t ≤ length order = omega (arith, a.inverse.order_fits) in
+    let w : t ≤ m = ps.within b h in
+    let s : f < t = ps.some b h in
+    let o : t ≤ length order = omega (arith, inv.order_fits) in
     let at = copied order members self f t o (omega arith) e in
     let n : length self ≡ t - f = ap length e ∙ length-take-le (t - f) (drop f order) (simp length-drop (omega arith)) in
     record {
       fits = simp (length-append, length-drop) (omega arith);
-      each = λ i l. rw (at i l) (a.inverse.order_below (f + i) (omega arith));
-      of = λ i l. (let g : f + i < m = omega arith in let p = a.inverse.place_order (f + i) g in
-          ap (λ q. get_or part q 0) (at i l) ∙ a.parts.own b (get_or order (f + i) 0) h (a.inverse.order_below (f + i) g) (omega arith) (omega arith));
+      each = λ i l. rw (at i l) (inv.order_below (f + i) (omega arith));
+      of = λ i l. (let g : f + i < m = omega arith in let p = inv.place_order (f + i) g in
+          ap (λ q. get_or part q 0) (at i l) ∙ ps.own b (get_or order (f + i) 0) h (inv.order_below (f + i) g) (omega arith) (omega arith));
       all = λ q hq s. (
-          let u : f ≤ get_or place q 0 = subst (λ d. get_or begin d 0 ≤ get_or place q 0) s (a.parts.from q hq) in
-          let v : get_or place q 0 < t = subst (λ d. get_or place q 0 < get_or end d 0) s (a.parts.to q hq) in
+          let u : f ≤ get_or place q 0 = subst (λ d. get_or begin d 0 ≤ get_or place q 0) s (ps.from q hq) in
+          let v : get_or place q 0 < t = subst (λ d. get_or place q 0 < get_or end d 0) s (ps.to q hq) in
           let i = get_or place q 0 - f in
           let l : i < t - f = omega arith in
           let y : f + i ≡ get_or place q 0 = omega arith in
-          (i, l, at i l ∙ ap (λ p. get_or order p 0) y ∙ a.inverse.order_place q hq));
+          (i, l, at i l ∙ ap (λ p. get_or order p 0) y ∙ inv.order_place q hq));
     }

@@ -8,13 +8,33 @@ ghost use Rattle.tables.specs.View.{moves};
 ghost use Rattle.splitting.specs.Comers.{Comers, Listed};
 
 use crate::repeats::is_marked;
-use tables::cells::{Class, Table, get, put};
+use tables::cells::{Class, Table, WordTable, get, put};
 
-// The lists of all classes and columns.
+// One column of a table, with the lists of who comes to each class.
 #[derive(Clone, Copy)]
-pub struct Lists<'a> {
+pub struct Column<'a> {
+    pub table: Table<'a>,
+    pub number: u32,
     pub heads: &'a [u32],
     pub links: &'a [u32],
+    ghost few: { table.classes < 2 ^ 32 },
+    ghost within: { number < table.width },
+    ghost heads_fit: { table.classes * table.width ≤ length heads.now },
+    ghost links_fit: { table.classes * table.width ≤ length links.now },
+    ghost listed: { Comers table.classes table.classes (λ q. moves table q number) (λ r. entry heads.now table.width r number) (λ q. entry links.now table.width q number) },
+}
+
+// A table with its columns that repeat an earlier one, marked, and the lists of who comes to each class by the others.
+#[derive(Clone, Copy)]
+pub struct Lists<'a> {
+    pub table: WordTable<'a>,
+    pub repeats: &'a [u32],
+    pub heads: &'a [u32],
+    pub links: &'a [u32],
+    ghost few: { table.table.classes < 2 ^ 32 },
+    ghost heads_fit: { table.table.classes * table.table.width ≤ length heads.now },
+    ghost links_fit: { table.table.classes * table.table.width ≤ length links.now },
+    ghost listed: { (a : ℕ) → a < table.table.width → slice_index repeats.now a ≢ 1 → Comers table.table.classes table.table.classes (λ q. moves table.table q a) (λ r. entry heads.now table.table.width r a) (λ q. entry links.now table.table.width q a) },
 }
 
 // Clears the first n words.

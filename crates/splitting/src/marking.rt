@@ -1,167 +1,112 @@
 // Classes marked: those of a part that are marked stand at its begin, before its `cut`.
-ghost use Rattle.std.specs.Prelude.{◌≡◌, ℕ, ◌+◌, ◌*◌, ◌^◌, ◌<◌, ◌≤◌, true, length, slice_index};
-ghost use Rattle.tables.specs.Cells.{entry};
+ghost use Rattle.std.specs.Prelude.{◌≡◌, ℕ, ◌^◌, ◌<◌, ◌≤◌, true, length, slice_index};
 ghost use Rattle.tables.specs.View.{moves, accepting};
-ghost use Rattle.splitting.specs.Comers.{Comers};
 ghost use Rattle.splitting.specs.Places.{Arranged, Touched, Grown};
 
-use crate::comers::Lists;
-use crate::places::{Bounds, Counts, swap};
+use crate::comers::Column;
+use crate::places::{Marks, Parting, Places, swap};
 use tables::cells::{Class, Table, get};
+
+// The part by which others are split: its classes, copied, since it may be split itself.
+#[derive(Clone, Copy)]
+pub struct Splitter<'a> {
+    pub members: &'a [u32],
+    pub size: usize,
+    ghost fits: { size ≤ length members.now },
+}
 
 // Marks class p, if it is not marked yet: it changes places with the first class of its part that is not. A part of which no class was marked is put at the tail of `touched`; the new tail.
 fn mark(
-    counts: Counts,
+    classes: usize,
     p: Class,
-    order: &mut [u32],
-    place: &mut [u32],
-    part: &[u32],
-    bounds: Bounds,
-    cut: &mut [u32],
-    touched: &mut [u32],
+    places: &mut Places,
+    parting: &Parting,
+    marks: &mut Marks,
     tail: usize,
 ) -> usize
-    requires class { (p.0 < counts.classes) × (counts.classes < 2 ^ 32) }
-    requires arranged { Arranged counts.classes counts.parts order.old place.old part.now bounds.begin.now bounds.end.now cut.old }
-    requires touched { Touched counts.classes counts.parts bounds.begin.now cut.old touched.old 0 tail }
-    ensures { Grown counts.classes counts.parts (λ q. q ≡ p.0) place.old part.now bounds.entry.begin.now bounds.entry.end.now cut.old order.new place.new cut.new touched.new result }
+    requires class { (p.0 < classes) × (classes < 2 ^ 32) }
+    requires arranged { Arranged classes parting.now.count places.old.order.now places.old.place.now parting.now.part.now parting.now.begin.now parting.now.end.now marks.old.cut.now }
+    requires touched { Touched classes parting.now.count parting.now.begin.now marks.old.cut.now marks.old.touched.now 0 tail }
+    ensures { Grown classes parting.now.count (λ q. q ≡ p.0) places.old.place.now parting.now.part.now parting.now.begin.now parting.now.end.now marks.old.cut.now places.new.order.now places.new.place.now marks.new.cut.now marks.new.touched.now result }
 {
-    let c = part[p.0 as usize] as usize;
-    let at = cut[c];
-    if place[p.0 as usize] < at {
+    let c = parting.part[p.0 as usize] as usize;
+    let at = marks.cut[c];
+    if places.place[p.0 as usize] < at {
         return tail;
     }
-    let q = Class(order[at as usize]);
-    swap(counts.classes, p, q, order, place);
-    cut[c] = at + 1;
-    if at == bounds.begin[c] {
-        touched[tail] = c as u32;
+    let q = Class(places.order[at as usize]);
+    swap(classes, p, q, places);
+    marks.cut[c] = at + 1;
+    if at == parting.begin[c] {
+        marks.touched[tail] = c as u32;
         tail + 1
     } else {
         tail
     }
 }
 
-// Marks the classes that go to class r by column a.
+// Marks the classes that the column leads to class r.
+// Invariant: those on the list of r from e on are marked.
 fn mark_comers(
-    parts: usize,
-    t: Table,
-    a: u32,
-    lists: Lists,
+    column: Column,
     r: Class,
-    order: &mut [u32],
-    place: &mut [u32],
-    part: &[u32],
-    bounds: Bounds,
-    cut: &mut [u32],
-    touched: &mut [u32],
+    places: &mut Places,
+    parting: &Parting,
+    marks: &mut Marks,
     tail: usize,
 ) -> usize
-    requires few { t.classes < 2 ^ 32 }
-    requires class { (r.0 < t.classes) × (a < t.width) }
-    requires room { (t.classes * t.width ≤ length lists.heads.now) × (t.classes * t.width ≤ length lists.links.now) }
-    requires comers { Comers t.classes t.classes (λ q. moves t q a) (λ q. entry lists.heads.now t.width q a) (λ q. entry lists.links.now t.width q a) }
-    requires arranged { Arranged t.classes parts order.old place.old part.now bounds.begin.now bounds.end.now cut.old }
-    requires touched { Touched t.classes parts bounds.begin.now cut.old touched.old 0 tail }
-    ensures { Grown t.entry.classes parts (λ q. moves t.entry q a ≡ r.0) place.old part.now bounds.entry.begin.now bounds.entry.end.now cut.old order.new place.new cut.new touched.new result }
+    requires class { r.0 < column.table.classes }
+    requires arranged { Arranged column.table.classes parting.now.count places.old.order.now places.old.place.now parting.now.part.now parting.now.begin.now parting.now.end.now marks.old.cut.now }
+    requires touched { Touched column.table.classes parting.now.count parting.now.begin.now marks.old.cut.now marks.old.touched.now 0 tail }
+    ensures { Grown column.entry.table.classes parting.now.count (λ q. moves column.entry.table q column.entry.number ≡ r.0) places.old.place.now parting.now.part.now parting.now.begin.now parting.now.end.now marks.old.cut.now places.new.order.now places.new.place.now marks.new.cut.now marks.new.touched.now result }
 {
-    let counts = Counts {
-        classes: t.classes,
-        parts,
-    };
+    let t = column.table;
+    let a = column.number;
     let to = r.0;
     let mut last = tail;
-    let mut e = get(lists.heads, t.classes, t.width, r, a).0;
+    let mut e = get(column.heads, t.classes, t.width, r, a).0;
     while e > 0 {
-        last = mark(
-            counts,
-            Class(e - 1),
-            order,
-            place,
-            part,
-            bounds,
-            cut,
-            touched,
-            last,
-        );
-        e = get(lists.links, t.classes, t.width, Class(e - 1), a).0;
+        last = mark(t.classes, Class(e - 1), places, parting, marks, last);
+        e = get(column.links, t.classes, t.width, Class(e - 1), a).0;
     }
     last
 }
 
-// Marks the classes that go to one of the members by column a.
-// Invariant: those that go to a member before place i are marked.
+// Marks the classes that the column leads to a class of the splitter.
+// Invariant: those that go to one before place i of it are marked.
 pub fn mark_column(
-    parts: usize,
-    t: Table,
-    a: u32,
-    lists: Lists,
-    members: &[u32],
-    size: usize,
-    order: &mut [u32],
-    place: &mut [u32],
-    part: &[u32],
-    bounds: Bounds,
-    cut: &mut [u32],
-    touched: &mut [u32],
+    column: Column,
+    splitter: Splitter,
+    places: &mut Places,
+    parting: &Parting,
+    marks: &mut Marks,
 ) -> usize
-    requires few { t.classes < 2 ^ 32 }
-    requires column { a < t.width }
-    requires members { (size ≤ length members.now) × ((i : ℕ) → i < size → slice_index members.now i < t.classes) }
-    requires room { (t.classes * t.width ≤ length lists.heads.now) × (t.classes * t.width ≤ length lists.links.now) }
-    requires comers { Comers t.classes t.classes (λ q. moves t q a) (λ q. entry lists.heads.now t.width q a) (λ q. entry lists.links.now t.width q a) }
-    requires arranged { Arranged t.classes parts order.old place.old part.now bounds.begin.now bounds.end.now cut.old }
-    requires touched { Touched t.classes parts bounds.begin.now cut.old touched.old 0 0 }
-    ensures { Grown t.entry.classes parts (λ q. (i : ℕ) × (i < size) × (slice_index members.now i ≡ moves t.entry q a)) place.old part.now bounds.entry.begin.now bounds.entry.end.now cut.old order.new place.new cut.new touched.new result }
+    requires members { (i : ℕ) → i < splitter.size → slice_index splitter.members.now i < column.table.classes }
+    requires arranged { Arranged column.table.classes parting.now.count places.old.order.now places.old.place.now parting.now.part.now parting.now.begin.now parting.now.end.now marks.old.cut.now }
+    requires touched { Touched column.table.classes parting.now.count parting.now.begin.now marks.old.cut.now marks.old.touched.now 0 0 }
+    ensures { Grown column.entry.table.classes parting.now.count (λ q. (i : ℕ) × (i < splitter.entry.size) × (slice_index splitter.entry.members.now i ≡ moves column.entry.table q column.entry.number)) places.old.place.now parting.now.part.now parting.now.begin.now parting.now.end.now marks.old.cut.now places.new.order.now places.new.place.now marks.new.cut.now marks.new.touched.now result }
 {
     let mut tail = 0;
-    for i in 0..size {
-        tail = mark_comers(
-            parts,
-            t,
-            a,
-            lists,
-            Class(members[i]),
-            order,
-            place,
-            part,
-            bounds,
-            cut,
-            touched,
-            tail,
-        );
+    for i in 0..splitter.size {
+        let r = Class(splitter.members[i]);
+        tail = mark_comers(column, r, places, parting, marks, tail);
     }
     tail
 }
 
 // Marks the classes that accept.
 // Invariant: those before q are marked.
-pub fn mark_accepting(
-    parts: usize,
-    t: Table,
-    order: &mut [u32],
-    place: &mut [u32],
-    part: &[u32],
-    bounds: Bounds,
-    cut: &mut [u32],
-    touched: &mut [u32],
-) -> usize
+pub fn mark_accepting(t: Table, places: &mut Places, parting: &Parting, marks: &mut Marks) -> usize
     requires few { t.classes < 2 ^ 32 }
-    requires arranged { Arranged t.classes parts order.old place.old part.now bounds.begin.now bounds.end.now cut.old }
-    requires touched { Touched t.classes parts bounds.begin.now cut.old touched.old 0 0 }
-    ensures { Grown t.entry.classes parts (λ q. accepting t.entry q ≡ true) place.old part.now bounds.entry.begin.now bounds.entry.end.now cut.old order.new place.new cut.new touched.new result }
+    requires arranged { Arranged t.classes parting.now.count places.old.order.now places.old.place.now parting.now.part.now parting.now.begin.now parting.now.end.now marks.old.cut.now }
+    requires touched { Touched t.classes parting.now.count parting.now.begin.now marks.old.cut.now marks.old.touched.now 0 0 }
+    ensures { Grown t.entry.classes parting.now.count (λ q. accepting t.entry q ≡ true) places.old.place.now parting.now.part.now parting.now.begin.now parting.now.end.now marks.old.cut.now places.new.order.now places.new.place.now marks.new.cut.now marks.new.touched.now result }
 {
-    let counts = Counts {
-        classes: t.classes,
-        parts,
-    };
     let mut tail = 0;
     for q in 0..t.classes {
         let class = Class(q as u32);
         if t.accepts(class) {
-            tail = mark(
-                counts, class, order, place, part, bounds, cut, touched, tail,
-            );
+            tail = mark(t.classes, class, places, parting, marks, tail);
         }
     }
     tail

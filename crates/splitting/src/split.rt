@@ -1,209 +1,182 @@
-// The classes of a table parted into those that are alike, by splitting parts (Hopcroft).
+// The classes of a table parted into those that are alike, by the smaller half (Hopcroft 1971).
 //
-// At first the classes are parted by acceptance. A part that waits is taken, and every part is split, column by column, by whether the column leads its classes into the part that was taken.
-// Where a part comes apart, the smaller piece becomes a new part, and waits; the other keeps the number, and waits if the part did. So parts wait in the order of their numbers:
-// those from `done` on wait, and no list of them is kept. Once none waits, no column leads one part into two; nor where every class is alone.
-// A class is among those taken again only after its part was halved, so for m classes each entry of the table is followed at most log2 m + 1 times.
-ghost use Rattle.std.specs.Prelude.{◌≡◌, ℕ, ◌+◌, ◌*◌, ◌^◌, ◌<◌, ◌≤◌, ◌≢◌, length, slice_index};
+// What is looked for is the coarsest partition of the classes that keeps apart what accepts from what does not, and is stable: each column leads the classes
+// of one part into one part. Its parts are exactly the classes that are alike. A partition is kept that is coarser than that one, or equal: at first it has
+// two parts, the classes that accept and the others, and parts are only ever cut, each time because a column leads their classes into different parts.
+//
+// A part that waits is taken as the splitter. For each column, every part of which the column leads some classes into the splitter, but not all, is cut into
+// these two pieces. Which classes those are is read off lists of who comes to each class of the splitter, so that no class is looked at that does not go there.
+//
+// Why it is right (`Splitting`). Beside the partition in memory there is an older, coarser one that no memory holds: each part that does not wait any more,
+// merged with the waiting parts that came off it. Three facts last from one splitter to the next. Classes that are alike are together, and classes that are
+// together accept alike. Each column leads the classes of one part into one older part: by the older parts nothing is left to cut. And of the parts that make
+// up an older part all but at most one wait. A splitter that has been taken becomes an older part of its own: by each column all classes of a part go into it
+// or none does, and so all into what is left of its older part or none (`Splits` says this column by column). Once no part waits, each older part is one part,
+// and so the partition is stable. It may be left before that where every class is alone, since then nothing can be cut.
+//
+// Why a new piece waits. Where a part is cut, both pieces lie in its older part. If the part waited, both have to wait; if it did not, it was the one that need
+// not, and one of its pieces has to, no matter which. So the piece with the new number always waits, and the other keeps the number and waits if the part did.
+// Parts are taken in the order of their numbers: those from `done` on are the ones that wait, and neither marks nor a list of them are kept.
+//
+// Why by the smaller half. It is the smaller piece that gets the new number. A class that was in a splitter waits again only as part of such a piece, with at
+// most half as many classes as before: so it is in at most log2 m + 1 splitters, where m is the number of classes, and each entry of the table is followed as
+// often. In all that is m * log2 m steps for each column. (No proof counts steps; that the new piece is the smaller is in the contract of `halve`.)
+//
+// In memory the classes stand part by part (`Places`, `Parting`), and a class is marked to be cut off by a swap to the front of its part (`Marks`): no step goes
+// over a whole part but for those that write the new number of the smaller piece. Columns that lead every class where an earlier one does are passed over: what
+// they would cut, the earlier one has cut.
+//
+// Splitting pays on tables of some size. Joining takes it from 16 classes on, where its scratch has room for the lists, and else goes over all columns in rounds.
+ghost use Rattle.std.specs.Prelude.{◌≡◌, ℕ, ◌+◌, ◌*◌, ◌^◌, ◌<◌, ◌≤◌, length, slice_index};
 ghost use Rattle.automata.specs.Joined.{Stable};
-ghost use Rattle.tables.specs.Cells.{entry};
 ghost use Rattle.tables.specs.View.{moves, accepting};
-ghost use Rattle.splitting.specs.Comers.{Comers};
 ghost use Rattle.splitting.specs.Places.{Arranged, Unmarked};
 ghost use Rattle.splitting.specs.Repeats.{Repeats};
 ghost use Rattle.splitting.specs.Split.{Room, Waiting, Cleft};
 
-use crate::comers::{Lists, list_comers};
+use crate::comers::{Column, Lists, list_comers};
 use crate::cutting::cut_touched;
-use crate::marking::{mark_accepting, mark_column};
-use crate::places::{Bounds, Counts, Places, arrange, list_members};
+use crate::marking::{Splitter, mark_accepting, mark_column};
+use crate::places::{Marks, Parting, Places, arrange, list_members};
 use crate::repeats::{is_marked, mark_repeats};
-use tables::cells::{Table, WordTable};
+use crate::scratch::Scratch;
+use tables::cells::WordTable;
 
-// Parts the classes by acceptance.
-fn start(
-    t: WordTable,
-    order: &mut [u32],
-    place: &mut [u32],
-    part: &mut [u32],
-    begin: &mut [u32],
-    end: &mut [u32],
-    cut: &mut [u32],
-    touched: &mut [u32],
-) -> usize
+// Parts the classes by acceptance: all classes are one part, and those that accept are cut off.
+fn start(t: WordTable, places: &mut Places, parting: &mut Parting, marks: &mut Marks)
     requires some { (0 < t.table.classes) × (t.table.classes < 2 ^ 32) }
-    requires placed { (t.table.classes ≤ length order.old) × (t.table.classes ≤ length place.old) × (t.table.classes ≤ length part.old) }
-    requires bounded { (t.table.classes ≤ length begin.old) × (t.table.classes ≤ length end.old) × (t.table.classes ≤ length cut.old) × (t.table.classes ≤ length touched.old) }
-    ensures { Waiting t.entry.sets t.entry.table.classes (moves t.entry.table) (accepting t.entry.table) result 1 order.new place.new part.new begin.new end.new cut.new }
+    requires placed { (t.table.classes ≤ length places.old.order.now) × (t.table.classes ≤ length places.old.place.now) × (t.table.classes ≤ length parting.old.part.now) }
+    requires bounded { (t.table.classes ≤ length parting.old.begin.now) × (t.table.classes ≤ length parting.old.end.now) × (t.table.classes ≤ length marks.old.cut.now) × (t.table.classes ≤ length marks.old.touched.now) }
+    ensures waiting { Waiting t.entry.sets t.entry.table.classes (moves t.entry.table) (accepting t.entry.table) parting.new.count 1 places.new.order.now places.new.place.now parting.new.part.now parting.new.begin.now parting.new.end.now marks.new.cut.now }
+    ensures room { t.entry.table.classes ≤ length marks.new.touched.now }
+    ensures same_part { parting.new.part.ghost_name ≡ parting.old.part.ghost_name }
 {
-    let counts = Counts {
-        classes: t.table.classes,
-        parts: 1,
-    };
-    arrange(t.table.classes, order, place, part, begin, end, cut);
-    let tail = mark_accepting(
-        1,
-        t.table,
-        order,
-        place,
-        part,
-        Bounds { begin, end },
-        cut,
-        touched,
-    );
-    cut_touched(
-        counts,
-        touched,
-        tail,
-        Places { order, place },
-        part,
-        begin,
-        end,
-        cut,
-    )
+    let table = t.table;
+    let cut = &mut *marks.cut;
+    arrange(table.classes, places, parting, cut);
+    let tail = mark_accepting(table, places, parting, marks);
+    cut_touched(table.classes, tail, places, parting, marks);
 }
 
-// Splits every part by whether column a leads its classes to a member.
+// Cuts every part by whether the column leads its classes to one of the splitter.
 fn split_column(
-    t: Table,
-    parts: usize,
-    a: u32,
-    lists: Lists,
-    members: &[u32],
-    size: usize,
-    order: &mut [u32],
-    place: &mut [u32],
-    part: &mut [u32],
-    begin: &mut [u32],
-    end: &mut [u32],
-    cut: &mut [u32],
-    touched: &mut [u32],
-) -> usize
-    requires few { t.classes < 2 ^ 32 }
-    requires column { (a < t.width) × (t.classes ≤ length touched.old) }
-    requires members { (size ≤ length members.now) × ((i : ℕ) → i < size → slice_index members.now i < t.classes) }
-    requires room { (t.classes * t.width ≤ length lists.heads.now) × (t.classes * t.width ≤ length lists.links.now) }
-    requires comers { Comers t.classes t.classes (λ q. moves t q a) (λ q. entry lists.heads.now t.width q a) (λ q. entry lists.links.now t.width q a) }
-    requires arranged { Arranged t.classes parts order.old place.old part.old begin.old end.old cut.old }
-    requires clean { Unmarked parts begin.old cut.old }
-    ensures { Cleft t.entry.classes parts (λ q. moves t.entry q a) members.now size part.old result order.new place.new part.new begin.new end.new cut.new }
+    column: Column,
+    splitter: Splitter,
+    places: &mut Places,
+    parting: &mut Parting,
+    marks: &mut Marks,
+)
+    requires members { (i : ℕ) → i < splitter.size → slice_index splitter.members.now i < column.table.classes }
+    requires room { column.table.classes ≤ length marks.old.touched.now }
+    requires arranged { Arranged column.table.classes parting.old.count places.old.order.now places.old.place.now parting.old.part.now parting.old.begin.now parting.old.end.now marks.old.cut.now }
+    requires clean { Unmarked parting.old.count parting.old.begin.now marks.old.cut.now }
+    ensures cleft { Cleft column.entry.table.classes parting.old.count (λ q. moves column.entry.table q column.entry.number) splitter.entry.members.now splitter.entry.size parting.old.part.now parting.new.count places.new.order.now places.new.place.now parting.new.part.now parting.new.begin.now parting.new.end.now marks.new.cut.now }
+    ensures room { column.entry.table.classes ≤ length marks.new.touched.now }
+    ensures same_part { parting.new.part.ghost_name ≡ parting.old.part.ghost_name }
 {
-    let counts = Counts {
-        classes: t.classes,
-        parts,
-    };
-    let tail = mark_column(
-        parts,
-        t,
-        a,
-        lists,
-        members,
-        size,
-        order,
-        place,
-        part,
-        Bounds { begin, end },
-        cut,
-        touched,
-    );
-    cut_touched(
-        counts,
-        touched,
-        tail,
-        Places { order, place },
-        part,
-        begin,
-        end,
-        cut,
-    )
+    let classes = column.table.classes;
+    let tail = mark_column(column, splitter, places, parting, marks);
+    cut_touched(classes, tail, places, parting, marks);
 }
 
-// Splits every part by part b, which waits; it does not wait any more.
-// Invariant: the parts are split by the columns before a.
+// Cuts every part, column by column, by whether the column leads its classes to one of part b, which waits; then b does not wait any more.
+// Invariant: the parts are cut by the columns before a.
 fn split_by(
-    t: WordTable,
-    parts: usize,
-    b: usize,
     lists: Lists,
-    repeats: &[u32],
-    order: &mut [u32],
-    place: &mut [u32],
-    part: &mut [u32],
-    begin: &mut [u32],
-    end: &mut [u32],
-    cut: &mut [u32],
-    touched: &mut [u32],
+    b: usize,
+    places: &mut Places,
+    parting: &mut Parting,
+    marks: &mut Marks,
     members: &mut [u32],
-) -> usize
-    requires few { t.table.classes < 2 ^ 32 }
-    requires part { b < parts }
-    requires marks { Repeats t.table.classes t.table.width (moves t.table) repeats.now }
-    requires touched { (t.table.classes ≤ length touched.old) × (t.table.classes ≤ length members.old) }
-    requires room { (t.table.classes * t.table.width ≤ length lists.heads.now) × (t.table.classes * t.table.width ≤ length lists.links.now) }
-    requires comers { (a : ℕ) → a < t.table.width → slice_index repeats.now a ≢ 1 → Comers t.table.classes t.table.classes (λ q. moves t.table q a) (λ q. entry lists.heads.now t.table.width q a) (λ q. entry lists.links.now t.table.width q a) }
-    requires waiting { Waiting t.sets t.table.classes (moves t.table) (accepting t.table) parts b order.old place.old part.old begin.old end.old cut.old }
-    ensures { Waiting t.entry.sets t.entry.table.classes (moves t.entry.table) (accepting t.entry.table) result (b + 1) order.new place.new part.new begin.new end.new cut.new }
+)
+    requires part { b < parting.old.count }
+    requires repeats { Repeats lists.table.table.classes lists.table.table.width (moves lists.table.table) lists.repeats.now }
+    requires room { (lists.table.table.classes ≤ length marks.old.touched.now) × (lists.table.table.classes ≤ length members.old) }
+    requires waiting { Waiting lists.table.sets lists.table.table.classes (moves lists.table.table) (accepting lists.table.table) parting.old.count b places.old.order.now places.old.place.now parting.old.part.now parting.old.begin.now parting.old.end.now marks.old.cut.now }
+    ensures waiting { Waiting lists.entry.table.sets lists.entry.table.table.classes (moves lists.entry.table.table) (accepting lists.entry.table.table) parting.new.count (b + 1) places.new.order.now places.new.place.now parting.new.part.now parting.new.begin.now parting.new.end.now marks.new.cut.now }
+    ensures room { lists.entry.table.table.classes ≤ length marks.new.touched.now }
+    ensures same_part { parting.new.part.ghost_name ≡ parting.old.part.ghost_name }
 {
-    let counts = Counts {
-        classes: t.table.classes,
-        parts,
-    };
-    let size = list_members(
-        counts,
-        b,
-        Places { order, place },
-        part,
-        Bounds { begin, end },
-        cut,
-        members,
-    );
-    let mut more = parts;
-    for a in 0..t.table.width as u32 {
-        if !is_marked(repeats, a) {
-            more = split_column(
-                t.table, more, a, lists, members, size, order, place, part, begin, end, cut,
-                touched,
-            );
+    let t = lists.table.table;
+    let size = list_members(t.classes, b, places, parting, members);
+    let splitter = Splitter { members, size };
+    for a in 0..t.width as u32 {
+        if !is_marked(lists.repeats, a) {
+            let column = Column {
+                table: t,
+                number: a,
+                heads: lists.heads,
+                links: lists.links,
+            };
+            split_column(column, splitter, places, parting, marks);
         }
     }
-    more
+}
+
+// Splits by one part after the other, until none waits or every class is alone. At first all parts but part 0 wait.
+// Invariant: those from `done` on wait.
+fn split_all(
+    lists: Lists,
+    places: &mut Places,
+    parting: &mut Parting,
+    marks: &mut Marks,
+    members: &mut [u32],
+)
+    requires repeats { Repeats lists.table.table.classes lists.table.table.width (moves lists.table.table) lists.repeats.now }
+    requires room { (lists.table.table.classes ≤ length marks.old.touched.now) × (lists.table.table.classes ≤ length members.old) }
+    requires waiting { Waiting lists.table.sets lists.table.table.classes (moves lists.table.table) (accepting lists.table.table) parting.old.count 1 places.old.order.now places.old.place.now parting.old.part.now parting.old.begin.now parting.old.end.now marks.old.cut.now }
+    ensures stable { Stable lists.entry.table.sets lists.entry.table.table.classes (moves lists.entry.table.table) (accepting lists.entry.table.table) (λ q. slice_index parting.new.part.now q) }
+    ensures below { (q : ℕ) → q < lists.entry.table.table.classes → slice_index parting.new.part.now q < lists.entry.table.table.classes }
+    ensures same_part { parting.new.part.ghost_name ≡ parting.old.part.ghost_name }
+{
+    let mut done = 1;
+    while done < parting.count {
+        if parting.count == lists.table.table.classes {
+            return;
+        }
+        split_by(lists, done, places, parting, marks, members);
+        done += 1;
+    }
 }
 
 // Parts the classes into those that are alike: `part` gets the part of each class, and the number of parts is returned. The parts are numbered as they came.
-// Scratch, in words, for m classes: m each for order to members, and as many as the table has entries each for heads and links, and for repeats up to one for each column. Any of them may hold anything.
-pub fn split(
-    t: WordTable,
-    part: &mut [u32],
-    order: &mut [u32],
-    place: &mut [u32],
-    begin: &mut [u32],
-    end: &mut [u32],
-    cut: &mut [u32],
-    touched: &mut [u32],
-    members: &mut [u32],
-    heads: &mut [u32],
-    links: &mut [u32],
-    repeats: &mut [u32],
-) -> usize
+pub fn split(t: WordTable, part: &mut [u32], scratch: &mut Scratch) -> usize
     requires some { 0 < t.table.classes }
     requires few { t.table.classes < 2 ^ 32 }
-    requires room { Room t.table.classes (t.table.classes * t.table.width) part.old order.old place.old begin.old end.old cut.old touched.old members.old heads.old links.old }
+    requires part { t.table.classes ≤ length part.old }
+    requires room { Room t.table.classes (t.table.classes * t.table.width) scratch.old }
     ensures stable { Stable t.entry.sets t.entry.table.classes (moves t.entry.table) (accepting t.entry.table) (λ q. slice_index part.new q) }
     ensures below { (q : ℕ) → q < t.entry.table.classes → slice_index part.new q < t.entry.table.classes }
 {
+    let (heads, links, repeats) = (
+        &mut *scratch.heads,
+        &mut *scratch.links,
+        &mut *scratch.repeats,
+    );
     mark_repeats(t, repeats);
     list_comers(t.table, repeats, heads, links);
-    let lists = Lists { heads, links };
-    let mut parts = start(t, order, place, part, begin, end, cut, touched);
-    let mut done = 1;
-    while done < parts {
-        if parts == t.table.classes {
-            return parts;
-        }
-        parts = split_by(
-            t, parts, done, lists, repeats, order, place, part, begin, end, cut, touched, members,
-        );
-        done += 1;
-    }
-    parts
+    let lists = Lists {
+        table: t,
+        repeats,
+        heads,
+        links,
+    };
+    let mut places = Places {
+        order: &mut *scratch.order,
+        place: &mut *scratch.place,
+    };
+    let mut parting = Parting {
+        count: 1,
+        part,
+        begin: &mut *scratch.begin,
+        end: &mut *scratch.end,
+    };
+    let mut marks = Marks {
+        cut: &mut *scratch.cut,
+        touched: &mut *scratch.touched,
+    };
+    let members = &mut *scratch.members;
+    start(t, &mut places, &mut parting, &mut marks);
+    split_all(lists, &mut places, &mut parting, &mut marks, members);
+    parting.count
 }
