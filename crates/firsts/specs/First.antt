@@ -1,5 +1,5 @@
 -- The first number of a sort.
-use Rattle.std.specs.Prelude.{◌≡◌, ℕ, ◌<◌, Bool, not}
+use Rattle.std.specs.Prelude.{◌≡◌, ℕ, ◌<◌, ◌≤◌, Bool, not}
 
 -- j is the first of the numbers below m at which f is b
 pub record Foremost (f : ℕ → Bool) (m : ℕ) (b : Bool) (j : ℕ) : Type 0 where
@@ -10,3 +10,7 @@ pub record Foremost (f : ℕ → Bool) (m : ℕ) (b : Bool) (j : ℕ) : Type 0 w
 -- there is none
 abbrev pub Nowhere : (ℕ → Bool) → ℕ → Bool → Type 0
 Nowhere f m b = (j : ℕ) → j < m → f j ≡ not b
+
+-- from i on there is one
+abbrev pub Somewhere : (ℕ → Bool) → ℕ → ℕ → Bool → Type 0
+Somewhere f i m b = (j : ℕ) × (i ≤ j) × (j < m) × (f j ≡ b)

@@ -4,9 +4,10 @@
 // `number` has the number of each class that was found, and anything for the others: class q was found exactly if its number is below the count and `queue` has q there. So no memory is cleared before a search.
 ghost use Rattle.std.specs.Prelude.{◌≡◌, ◌+◌, ◌^◌, ◌<◌, ◌≤◌, true, false, length, slice_set};
 ghost use Rattle.tables.specs.Cells.{entry};
-ghost use Rattle.tables.specs.View.{moves};
-ghost use Rattle.firsts.specs.Search.{Room, Among, Numbered, Seeking, Searched};
+ghost use Rattle.tables.specs.View.{moves, accepting};
+ghost use Rattle.firsts.specs.Search.{Room, Among, Numbered, Seeking, Sought};
 
+use crate::first::any;
 use tables::cells::{Class, WordTable};
 
 // Whether class q is among those found.
@@ -95,7 +96,8 @@ fn follow_all(
     count
 }
 
-// Finds all classes, and returns how many there are. Memory, in words, for m classes: m each for queue, number, prev and via, which may hold anything.
+// Finds classes, a row at a time, until a class of each sort is found or none is left to follow, and returns how many are found. The start is of one sort: so only the classes that
+// a row added are looked at. Memory, in words, for m classes: m each for queue, number, prev and via, which may hold anything.
 pub fn search(
     t: WordTable,
     queue: &mut [u32],
@@ -106,15 +108,20 @@ pub fn search(
     requires some { 0 < t.table.classes }
     requires few { t.table.classes < 2 ^ 32 }
     requires room { Room t.table.classes queue.old number.old prev.old via.old }
-    ensures { Searched t.entry.sets t.entry.table.classes (moves t.entry.table) result queue.new prev.new via.new }
+    ensures { Sought t.entry.sets t.entry.table.classes (moves t.entry.table) (accepting t.entry.table) result queue.new number.new prev.new via.new }
 {
+    let start = t.table.accepts(Class(0));
     queue[0] = 0;
     number[0] = 0;
     let mut found = 1;
     let mut i = 0;
     while i < found {
-        found = follow_all(t, queue, number, prev, via, found, i);
+        let more = follow_all(t, queue, number, prev, via, found, i);
         i += 1;
+        if any(t.table, queue, found, more, !start) {
+            return more;
+        }
+        found = more;
     }
     found
 }

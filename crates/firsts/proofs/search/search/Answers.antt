@@ -1,7 +1,6 @@
-use Rattle.std.proofs.Common.{◌≡◌, subst, arith}
-use Rattle.tables.specs.Cells.{entry}
-use Rattle.firsts.specs.Search.{Seeking}
-use Rattle.firsts.proofs.SearchLaws.{seeking_start, seeking_end}
+use Rattle.std.proofs.Common.{◌+◌, get_or, sym, ap, ◌∙◌, inl, inr, arith}
+use Rattle.tables.specs.Cells.{entry, accepts}
+use Rattle.firsts.proofs.SearchLaws.{seeking_start, each_sort}
 use Rattle.firsts.proofs.search.search.Goals as goal
 
 pub loop-i-init : goal.loop-i-init
@@ -9,10 +8,11 @@ loop-i-init c =
     let t = c.args.t.table in
     (omega arith, seeking_start c.args.t.sets t.classes (entry t.rows.now t.width) c.args.queue.now c.args.number.now c.args.prev.now c.args.via.now c.requires.some c.requires.room)
 
+pub returns-then-any : goal.returns-then-any
+returns-then-any c =
+    let x = c.follow_all-more.ensures.so_far in
+    let (j, l, h, e) = c.any.ensures.0 c.if-any.true in
+    record { row = c.loop-i.i + 1; so_far = x; enough = inr (each_sort (λ j. accepts c.args.t.table.accept.now (get_or c.follow_all-more.new.queue j 0)) c.follow_all-more.result j c.accepts-start.result h (ap (accepts c.args.t.table.accept.now) x.so_far.first ∙ sym c.accepts-start.ensures) e) }
+
 pub returns : goal.returns
-returns c =
-    let t = c.args.t.table in
-    let s = c.loop-i in
-    let e : s.i ≡ s.found = omega arith in
-    seeking_end c.args.t.sets t.classes (entry t.rows.now t.width) s.found s.queue s.number s.prev s.via
-    (subst (λ i. Seeking c.args.t.sets t.classes (entry t.rows.now t.width) s.found s.queue s.number s.prev s.via i 0) e s.invariant.1)
+returns c = record { row = c.loop-i.i; so_far = c.loop-i.invariant.1; enough = inl (omega arith) }
