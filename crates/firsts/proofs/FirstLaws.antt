@@ -1,8 +1,6 @@
 -- From a table of a language and a search over its classes: the first word of the language and the first word that is not in it, or that there is none.
-use Rattle.std.proofs.Common.{◌≡◌, ℕ, ◌+◌, ◌-◌, ◌<◌, ◌≤◌, Bool, true, false, not, IsTrue, ◌↔◌, Option, Some, None, MatchOption, List, get_or, take, drop, refl, sym, ap, inl, inr, ◌∙◌, arith}
+use Rattle.std.proofs.Common.{◌≡◌, ℕ, ◌<◌, Bool, true, false, not, ◌↔◌, List, get_or, sym, ap, inl, inr, ◌∙◌, arith}
 use mathlib.Core.Bool.{false≢true}
-use Rattle.std.specs.Option.{is_some}
-use Rattle.std.proofs.lemmas.List.{get_or-take, get_or-drop}
 use Rattle.words.specs.Languages.{Lang}
 use Rattle.words.specs.Order.{Less}
 use Rattle.words.specs.Words.{Word, Columns}
@@ -17,20 +15,9 @@ use Rattle.firsts.specs.Spell.{word, Falls}
 use Rattle.firsts.proofs.SearchLaws.{seeking_word, seeking_end}
 
 -- what is nowhere is not somewhere
-nowhere_not : (f : ℕ → Bool) (i m : ℕ) (b : Bool) → Nowhere f m b → Somewhere f i m b → ⊥
-nowhere_not f i m true n (j, l, h, e) = false≢true (sym (n j h) ∙ e)
-nowhere_not f i m false n (j, l, h, e) = false≢true (sym e ∙ n j h)
-
--- the numbers from i on, as a list of their own
-pub any_part : (f : ℕ → Bool) (queue : List ℕ) (i m : ℕ) (b : Bool) → i ≤ m → (r : Option ℕ) → MatchOption r (Nowhere (λ j. f (get_or (take (m - i) (drop i queue)) j 0)) (m - i) b) (Foremost (λ j. f (get_or (take (m - i) (drop i queue)) j 0)) (m - i) b) → IsTrue (is_some r) ↔ Somewhere (λ j. f (get_or queue j 0)) i m b
-any_part f queue i m b o r x = by r x
-  where
-    part : (j : ℕ) → j < m - i → f (get_or (take (m - i) (drop i queue)) j 0) ≡ f (get_or queue (i + j) 0)
-    part j h = ap f (get_or-take (m - i) (drop i queue) j 0 h ∙ get_or-drop i queue j 0)
-
-    by : (r : Option ℕ) → MatchOption r (Nowhere (λ j. f (get_or (take (m - i) (drop i queue)) j 0)) (m - i) b) (Foremost (λ j. f (get_or (take (m - i) (drop i queue)) j 0)) (m - i) b) → IsTrue (is_some r) ↔ Somewhere (λ j. f (get_or queue j 0)) i m b
-    by None n = (λ e. absurd (false≢true e), λ (j, l, h, e). (let d : i + (j - i) ≡ j = omega arith in absurd (nowhere_not (λ j. f (get_or (take (m - i) (drop i queue)) j 0)) 0 (m - i) b n (j - i, omega arith, omega arith, part (j - i) (omega arith) ∙ ap (λ t. f (get_or queue t 0)) d ∙ e))))
-    by (Some j) y = (λ e. (i + j, omega arith, omega (arith, y.below), sym (part j y.below) ∙ y.here), λ e. refl)
+nowhere_not : (f : ℕ → Bool) (i m : ℕ) (b : Bool) → Nowhere f i m b → Somewhere f i m b → ⊥
+nowhere_not f i m true n (j, l, h, e) = false≢true (sym (n j l h) ∙ e)
+nowhere_not f i m false n (j, l, h, e) = false≢true (sym e ∙ n j l h)
 
 module _ (k classes : ℕ) (δ : ℕ → ℕ → ℕ) (f : ℕ → Bool) (m : ℕ) (queue number prev via : List ℕ) (s : Sought k classes δ f m queue number prev via) where
   -- a word can be read off from each number that was given
@@ -47,30 +34,30 @@ module _ (k classes : ℕ) (δ : ℕ → ℕ → ℕ) (f : ℕ → Bool) (m : �
 
   module _ (L : Lang) (t : Table k L classes δ f) where
     -- the first number whose class accepts has the first word of the language
-    pub first_in : (j : ℕ) → Foremost (λ j. f (get_or queue j 0)) m true j → Columns k (word prev via j) × L (word prev via j) × ((u : Word) → Columns k u → Less u (word prev via j) → L u → ⊥)
-    first_in j x = first_of L f t.says j x.below x.here x.before
+    pub first_in : (j : ℕ) → Foremost (λ j. f (get_or queue j 0)) 0 m true j → Columns k (word prev via j) × L (word prev via j) × ((u : Word) → Columns k u → Less u (word prev via j) → L u → ⊥)
+    first_in j x = first_of L f t.says j x.below x.here (λ p h. x.before p (omega arith) h)
 
     -- the first number whose class does not accept has the first word that is not in it
-    pub first_out : (j : ℕ) → Foremost (λ j. f (get_or queue j 0)) m false j → Columns k (word prev via j) × (L (word prev via j) → ⊥) × ((u : Word) → Columns k u → Less u (word prev via j) → (L u → ⊥) → ⊥)
-    first_out j x = first_of (λ w. L w → ⊥) (λ q. not (f q)) (not_table k L classes δ f t).says j x.below (ap not x.here) (λ i h. ap not (x.before i h))
+    pub first_out : (j : ℕ) → Foremost (λ j. f (get_or queue j 0)) 0 m false j → Columns k (word prev via j) × (L (word prev via j) → ⊥) × ((u : Word) → Columns k u → Less u (word prev via j) → (L u → ⊥) → ⊥)
+    first_out j x = first_of (λ w. L w → ⊥) (λ q. not (f q)) (not_table k L classes δ f t).says j x.below (ap not x.here) (λ p h. ap not (x.before p (omega arith) h))
 
     -- where all classes are found, each word leads to one that is found, and the numbers say the language as their classes do
-    leads : s.row ≡ m → (b : Bool) → Nowhere (λ j. f (get_or queue j 0)) m b → (w : Word) → Columns k w → (f (run δ 0 w) ≡ not b)
+    leads : s.row ≡ m → (b : Bool) → Nowhere (λ j. f (get_or queue j 0)) 0 m b → (w : Word) → Columns k w → (f (run δ 0 w) ≡ not b)
     leads e b x w h =
         let explored = seeking_end k classes δ m queue number prev via s.row s.so_far e in
         let c = explored.connected in
         let q = run s.so_far.γ 0 w in
-        ap f (sym (explored_run k δ 0 m (λ j. get_or queue j 0) s.so_far.γ explored w h)) ∙ x q (run_below k m s.so_far.γ c 0 w c.start h)
+        ap f (sym (explored_run k δ 0 m (λ j. get_or queue j 0) s.so_far.γ explored w h)) ∙ x q (omega arith) (run_below k m s.so_far.γ c 0 w c.start h)
 
     -- no class that is found accepts: no word is in the language
-    pub none_in : Nowhere (λ j. f (get_or queue j 0)) m true → (w : Word) → Columns k w → L w → ⊥
+    pub none_in : Nowhere (λ j. f (get_or queue j 0)) 0 m true → (w : Word) → Columns k w → L w → ⊥
     none_in x w h l = elim s.enough [
       | inl e ↦ false≢true (sym (leads e true x w h) ∙ (t.says w h).1 l)
       | inr b ↦ nowhere_not (λ j. f (get_or queue j 0)) 0 m true x (b true)
     ]
 
     -- every class that is found accepts: every word is
-    pub none_out : Nowhere (λ j. f (get_or queue j 0)) m false → (w : Word) → Columns k w → L w
+    pub none_out : Nowhere (λ j. f (get_or queue j 0)) 0 m false → (w : Word) → Columns k w → L w
     none_out x w h = elim s.enough [
       | inl e ↦ (t.says w h).0 (leads e false x w h)
       | inr b ↦ absurd (nowhere_not (λ j. f (get_or queue j 0)) 0 m false x (b false))

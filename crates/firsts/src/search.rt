@@ -7,7 +7,7 @@ ghost use Rattle.tables.specs.Cells.{entry};
 ghost use Rattle.tables.specs.View.{moves, accepting};
 ghost use Rattle.firsts.specs.Search.{Room, Among, Numbered, Seeking, Sought};
 
-use crate::first::any;
+use crate::first::first;
 use tables::cells::{Class, WordTable};
 
 // Whether class q is among those found.
@@ -118,7 +118,7 @@ pub fn search(
     while i < found {
         let more = follow_all(t, queue, number, prev, via, found, i);
         i += 1;
-        if any(t.table, queue, found, more, !start) {
+        if first(t.table, queue, found, more, !start).is_some() {
             return more;
         }
         found = more;

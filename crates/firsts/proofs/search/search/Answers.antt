@@ -8,11 +8,12 @@ loop-i-init c =
     let t = c.args.t.table in
     (omega arith, seeking_start c.args.t.sets t.classes (entry t.rows.now t.width) c.args.queue.now c.args.number.now c.args.prev.now c.args.via.now c.requires.some c.requires.room)
 
-pub returns-then-any : goal.returns-then-any
-returns-then-any c =
+pub returns-then-is_some : goal.returns-then-is_some
+returns-then-is_some c =
+    let f = accepts c.args.t.table.accept.now in
     let x = c.follow_all-more.ensures.so_far in
-    let (j, l, h, e) = c.any.ensures.0 c.if-any.true in
-    record { row = c.loop-i.i + 1; so_far = x; enough = inr (each_sort (λ j. accepts c.args.t.table.accept.now (get_or c.follow_all-more.new.queue j 0)) c.follow_all-more.result j c.accepts-start.result h (ap (accepts c.args.t.table.accept.now) x.so_far.first ∙ sym c.accepts-start.ensures) e) }
+    let both = each_sort (λ j. f (get_or c.follow_all-more.new.queue j 0)) c.loop-i.found c.follow_all-more.result c.accepts-start.result c.first.result c.first.ensures (sym c.is_some.ensures ∙ c.if-is_some.true) (ap f x.so_far.first ∙ sym c.accepts-start.ensures) in
+    record { row = c.loop-i.i + 1; so_far = x; enough = inr both }
 
 pub returns : goal.returns
 returns c = record { row = c.loop-i.i; so_far = c.loop-i.invariant.1; enough = inl (omega arith) }
