@@ -24,7 +24,7 @@ fn word_case(
     requires searched { Searched t.sets t.table.classes (moves t.table) found queue.now prev.now via.now }
     requires room { (found ≤ length queue.now) × ((found ≤ length prev.now) × (found ≤ length via.now)) }
 {
-    let Some(j) = first(t.table, queue, found, wanted) else {
+    let Some(j) = first(t.table, queue, 0, found, wanted) else {
         return println!(rt; "first {wanted}: none");
     };
     let n = word_length(prev, j);
