@@ -1,7 +1,9 @@
 // Breadth first over the classes of a table, columns rising: so each class is found by its first word, and the classes are found in the order of these words.
 // Classes are numbered as they are found, from class 0 on. `queue` has the class of each number; `prev` and `via` have the number from which it was found and the column that led to it.
-// At column a of number i: the words of the numbers rise, and come before the word of i followed by a; where the columns before lead is found, by a word that is not later.
+// Invariant, at column a of number i: the words of the numbers rise, and come before the word of i followed by a; where the columns before lead is found, by a word that is not later.
 // `number` has the number of each class that was found, and anything for the others: class q was found exactly if its number is below the count and `queue` has q there. So no memory is cleared before a search.
+// The search may stop once a class that accepts is found and one that does not, whatever classes are left. By the invariant each word leads to a class that was found by a word not later, or is later than the words
+// of all classes found. So a word before that of the first class found of a sort leads to a class found before that one, of the other sort.
 ghost use Rattle.std.specs.Prelude.{◌≡◌, ◌+◌, ◌^◌, ◌<◌, ◌≤◌, true, false, length, slice_set};
 ghost use Rattle.tables.specs.Cells.{entry};
 ghost use Rattle.tables.specs.View.{moves, accepting};
@@ -96,8 +98,8 @@ fn follow_all(
     count
 }
 
-// Finds classes, a row at a time, until a class of each sort is found or none is left to follow, and returns how many are found. The start is of one sort: so only the classes that
-// a row added are looked at. Memory, in words, for m classes: m each for queue, number, prev and via, which may hold anything.
+// Finds classes, a row at a time, until one of each sort is found or none is left to follow, and returns how many are found. Those found before a row are all of the start's sort, so only those that the row
+// added are looked at. Memory, in words, for m classes: m each for queue, number, prev and via, which may hold anything.
 pub fn search(
     t: WordTable,
     queue: &mut [u32],

@@ -1,7 +1,5 @@
 // The search over the classes of a table, and the first words that it accepts and does not.
-ghost use Rattle.std.specs.Prelude.{◌≤◌, length};
-ghost use Rattle.tables.specs.View.{moves};
-ghost use Rattle.firsts.specs.Search.{Searched};
+ghost use Rattle.std.specs.Prelude.{ℕ, ◌<◌, ◌≤◌, length, slice_index};
 
 use crate::checked::{is_table, table};
 use crate::tell::tell_numbers;
@@ -21,7 +19,8 @@ fn word_case(
     found: usize,
     wanted: bool,
 ) -> io::Result<()>
-    requires searched { Searched t.sets t.table.classes (moves t.table) found queue.now prev.now via.now }
+    requires below { (j : ℕ) → j < found → slice_index queue.now j < t.table.classes }
+    requires falls { (j : ℕ) → 0 < j → j < found → slice_index prev.now j < j }
     requires room { (found ≤ length queue.now) × ((found ≤ length prev.now) × (found ≤ length via.now)) }
 {
     let Some(j) = first(t.table, queue, 0, found, wanted) else {
@@ -39,7 +38,7 @@ fn word_case(
     println!(rt; "")
 }
 
-// The classes as they are found, and the two first words.
+// The classes as they are found, up to the row with which one of each sort is found, and the two first words.
 pub fn search_case<'a>(
     rt: &HostRuntime,
     rows: &'a [u32],
