@@ -1,6 +1,7 @@
 -- From a table of a language and a search over its classes: the first word of the language and the first word that is not in it, or that there is none.
-use Rattle.std.proofs.Common.{◌≡◌, ℕ, ◌<◌, Bool, true, false, not, ◌↔◌, List, get_or, sym, ap, inl, inr, ◌∙◌, arith}
+use Rattle.std.proofs.Common.{◌≡◌, ℕ, ◌<◌, Bool, true, false, not, IsTrue, ◌↔◌, Option, Some, None, MatchOption, List, get_or, refl, sym, ap, inl, inr, ◌∙◌, arith}
 use mathlib.Core.Bool.{false≢true}
+use Rattle.std.specs.Option.{is_some}
 use Rattle.words.specs.Languages.{Lang}
 use Rattle.words.specs.Order.{Less}
 use Rattle.words.specs.Words.{Word, Columns}
@@ -18,6 +19,11 @@ use Rattle.firsts.proofs.SearchLaws.{seeking_word, seeking_end}
 nowhere_not : (f : ℕ → Bool) (i m : ℕ) (b : Bool) → Nowhere f i m b → Somewhere f i m b → ⊥
 nowhere_not f i m true n (j, l, h, e) = false≢true (sym (n j l h) ∙ e)
 nowhere_not f i m false n (j, l, h, e) = false≢true (sym e ∙ n j l h)
+
+-- a first one is found exactly if there is one
+pub somewhere_some : (f : ℕ → Bool) (i m : ℕ) (b : Bool) (r : Option ℕ) → MatchOption r (Nowhere f i m b) (Foremost f i m b) → IsTrue (is_some r) ↔ Somewhere f i m b
+somewhere_some f i m b None n = (λ e. absurd (false≢true e), λ x. absurd (nowhere_not f i m b n x))
+somewhere_some f i m b (Some j) x = (λ e. (j, x.from, x.below, x.here), λ e. refl)
 
 module _ (k classes : ℕ) (δ : ℕ → ℕ → ℕ) (f : ℕ → Bool) (m : ℕ) (queue number prev via : List ℕ) (s : Sought k classes δ f m queue number prev via) where
   -- a word can be read off from each number that was given

@@ -1,15 +1,13 @@
 -- What each step of the search keeps, and what is known at its end.
-use Rattle.std.proofs.Common.{◌≡◌, ℕ, zero, suc, ◌+◌, ◌^◌, ◌<◌, ◌≤◌, Bool, true, false, not, Option, Some, None, MatchOption, List, [], ◌∷◌, ◌++◌, length, get_or, set, sym, ap, ◌∙◌, subst, inl, inr, add-one, arith}
-use mathlib.Core.Bool.{false≢true}
+use Rattle.std.proofs.Common.{◌≡◌, ℕ, zero, suc, ◌+◌, ◌^◌, ◌<◌, ◌≤◌, Bool, true, false, not, List, [], ◌∷◌, ◌++◌, length, get_or, set, sym, ap, ◌∙◌, subst, inl, inr, add-one, arith}
 use native.Mathlib.Decide.{ℕ_discrete}
-use Rattle.std.specs.Option.{is_some}
 use Rattle.std.proofs.lemmas.List.{get_or-set_same, get_or-set_other}
 use Rattle.words.specs.Words.{Word}
 use Rattle.automata.specs.Search.{Before, Explored, Exploring}
 use Rattle.automata.proofs.Counting.{pigeon}
 use Rattle.automata.proofs.Exploring.{exploring_start, exploring_row, exploring_old, exploring_new, exploring_end, upd, upd_here, upd_else}
 use Rattle.firsts.specs.Search.{Room, Among, Seeking}
-use Rattle.firsts.specs.First.{Foremost, Nowhere, Somewhere}
+use Rattle.firsts.specs.First.{Somewhere}
 use Rattle.firsts.specs.Spell.{word}
 use Rattle.firsts.proofs.SpellLaws.{word_start, word_step}
 
@@ -161,9 +159,8 @@ module _ (k classes : ℕ) (δ : ℕ → ℕ → ℕ) where
     seeking_end i s e = (exploring_end k δ 0 m (λ j. get_or queue j 0) s.γ s.ws (subst (λ i. Exploring k δ 0 m (λ j. get_or queue j 0) s.γ s.ws i 0) e s.so_far)).0
 
 -- number 0 is of one sort, and from i on is one of the other: there is one of each
-pub each_sort : (f : ℕ → Bool) (i m : ℕ) (start : Bool) (r : Option ℕ) → MatchOption r (Nowhere f i m (not start)) (Foremost f i m (not start)) → is_some r ≡ true → f 0 ≡ start → (b : Bool) → Somewhere f 0 m b
-each_sort f i m start None n t e b = absurd (false≢true t)
-each_sort f i m true (Some j) x t e true = (0, omega arith, omega (arith, x.below), e)
-each_sort f i m true (Some j) x t e false = (j, omega arith, x.below, x.here)
-each_sort f i m false (Some j) x t e true = (j, omega arith, x.below, x.here)
-each_sort f i m false (Some j) x t e false = (0, omega arith, omega (arith, x.below), e)
+pub each_sort : (f : ℕ → Bool) (i m : ℕ) (start : Bool) → f 0 ≡ start → Somewhere f i m (not start) → (b : Bool) → Somewhere f 0 m b
+each_sort f i m true e (j, l, h, g) true = (0, omega arith, omega arith, e)
+each_sort f i m true e (j, l, h, g) false = (j, omega arith, h, g)
+each_sort f i m false e (j, l, h, g) true = (j, omega arith, h, g)
+each_sort f i m false e (j, l, h, g) false = (0, omega arith, omega arith, e)
