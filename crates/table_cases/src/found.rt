@@ -4,7 +4,7 @@ ghost use Rattle.std.specs.Prelude.{ℕ, ◌<◌, ◌≤◌, length, slice_index
 use crate::checked::{is_table, table};
 use crate::tell::tell_numbers;
 use firsts::first::first;
-use firsts::search::search;
+use firsts::search::{Found, search};
 use firsts::spell::{word_length, write_word};
 use std::io;
 use tables::cells::WordTable;
@@ -53,10 +53,16 @@ pub fn search_case<'a>(
     let t = table(rows, accept, classes, 1);
     let (mut queue, mut number) = ([7u32; 64], [7u32; 64]);
     let (mut prev, mut via) = ([7u32; 64], [7u32; 64]);
-    let found = search(t, &mut queue, &mut number, &mut prev, &mut via);
+    let Found {
+        count: found,
+        queue,
+        prev,
+        via,
+        ..
+    } = search(t, &mut queue, &mut number, &mut prev, &mut via);
     print!(rt; "search:")?;
-    tell_numbers(rt, &queue, found)?;
+    tell_numbers(rt, queue, found)?;
     println!(rt; "")?;
-    word_case(rt, t, &queue, &prev, &via, found, true)?;
-    word_case(rt, t, &queue, &prev, &via, found, false)
+    word_case(rt, t, queue, prev, via, found, true)?;
+    word_case(rt, t, queue, prev, via, found, false)
 }
