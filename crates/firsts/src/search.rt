@@ -95,8 +95,8 @@ impl Found<'_> {
     }
 }
 
-// Finds classes, a row at a time, until one of each sort is found or none is left to follow, and returns how many are found. Those found before a row are all of the start's sort, so only those that the row
-// added are looked at. Memory, in words, for m classes: m each for queue, number, prev and via, which may hold anything.
+// Finds classes, a row at a time, until one of each sort is found or none is left to follow. Those found before a row are all of the start's sort, so only those that the row added are
+// looked at. Memory, in words, for m classes: m each for queue, number, prev and via, which may hold anything.
 pub fn search<'a>(
     t: WordTable,
     queue: &'a mut [u32],
