@@ -4,7 +4,7 @@
 // `number` has the number of each class that was found, and anything for the others: class q was found exactly if its number is below the count and `queue` has q there. So no memory is cleared before a search.
 // The search may stop once a class that accepts is found and one that does not, whatever classes are left. By the invariant each word leads to a class that was found by a word not later, or is later than the words
 // of all classes found. So a word before that of the first class found of a sort leads to a class found before that one, of the other sort.
-ghost use Rattle.std.specs.Prelude.{◌≡◌, ℕ, ◌+◌, ◌^◌, ◌<◌, ◌≤◌, ◌↔◌, true, false, IsTrue, slice_index, slice_set};
+ghost use Rattle.std.specs.Prelude.{◌≡◌, ℕ, ◌+◌, ◌^◌, ◌<◌, ◌≤◌, ◌↔◌, true, false, IsTrue, length, slice_index, slice_set};
 ghost use Rattle.tables.specs.View.{moves, accepting};
 ghost use Rattle.firsts.specs.First.{Somewhere};
 ghost use Rattle.firsts.specs.Search.{Room, Among, Numbered, Sought};
@@ -29,7 +29,7 @@ impl Found<'_> {
 
     // Whether class q is among those found.
     fn has(&self, q: Class) -> bool
-        requires room { (self.now.count ≤ self.now.classes) × (q.0 < self.now.classes) }
+        requires room { (self.now.count ≤ length self.now.queue.now) × (q.0 < length self.now.number.now) }
         requires numbered { Numbered self.now.queue.now self.now.number.now self.now.count }
         ensures old { result ≡ true → Among self.now.queue.now self.now.count q.0 }
         ensures new { result ≡ false → Among self.now.queue.now self.now.count q.0 → ⊥ }
@@ -40,8 +40,9 @@ impl Found<'_> {
 
     // Gives class q the next number; it was found from number i by column a.
     fn enter(&mut self, q: Class, i: usize, a: u32)
-        requires room { (self.old.count < self.old.classes) × (q.0 < self.old.classes) }
-        requires small { (i < self.old.count) × (self.old.classes < 2 ^ 32) }
+        requires room { self.old.count < self.old.classes }
+        requires class { q.0 < length self.old.number.now }
+        requires small { (i < self.old.count) × (self.old.count < 2 ^ 32) }
         ensures count { self.new.count ≡ self.old.count + 1 }
         ensures queue { self.new.queue.now ≡ slice_set self.old.queue.now self.old.count q.0 }
         ensures number { self.new.number.now ≡ slice_set self.old.number.now q.0 self.old.count }
@@ -56,16 +57,17 @@ impl Found<'_> {
         self.count += 1;
     }
 
-    // Follows column a from the class of number i.
-    fn follow(&mut self, t: WordTable, i: usize, a: u32)
-        requires few { (self.old.classes ≡ t.table.classes) × (t.table.classes < 2 ^ 32) }
-        requires here { (i < self.old.count) × (a < t.table.width) }
-        requires so_far { Seeks t self.old i a }
+    // Follows column a from the class of number i, of a table over words of `sets` sets.
+    fn follow(&mut self, t: Table, sets: u32, i: usize, a: u32)
+        requires wide { t.width ≡ 2 ^ sets }
+        requires few { (self.old.classes ≡ t.classes) × (t.classes < 2 ^ 32) }
+        requires here { (i < self.old.count) × (a < t.width) }
+        requires so_far { Seeks sets t self.old i a }
         ensures more { self.old.count ≤ self.new.count }
-        ensures so_far { Seeks t.entry self.new i (a + 1) }
+        ensures so_far { Seeks sets t.entry self.new i (a + 1) }
         ensures classes { self.new.classes ≡ self.old.classes }
     {
-        let q = t.table.next(Class(self.queue[i]), a);
+        let q = t.next(Class(self.queue[i]), a);
         if !self.has(q) {
             self.enter(q, i, a);
         }
@@ -75,13 +77,13 @@ impl Found<'_> {
     fn follow_all(&mut self, t: WordTable, i: usize)
         requires few { (self.old.classes ≡ t.table.classes) × (t.table.classes < 2 ^ 32) }
         requires here { i < self.old.count }
-        requires so_far { Seeks t self.old i 0 }
+        requires so_far { Seeks t.sets t.table self.old i 0 }
         ensures more { self.old.count ≤ self.new.count }
-        ensures so_far { Seeks t.entry self.new (i + 1) 0 }
+        ensures so_far { Seeks t.entry.sets t.entry.table self.new (i + 1) 0 }
         ensures classes { self.new.classes ≡ self.old.classes }
     {
         for a in 0..t.table.width as u32 {
-            self.follow(t, i, a);
+            self.follow(t.table, t.sets, i, a);
         }
     }
 

@@ -7,23 +7,23 @@ use firsts::first::first;
 use firsts::search::{Found, search};
 use firsts::spell::{word_length, write_word};
 use std::io;
-use tables::cells::WordTable;
+use tables::cells::Table;
 
 // The first word that the table accepts (`wanted` is true) or does not (false), from the numbers of the search.
 fn word_case(
     rt: &HostRuntime,
-    t: WordTable,
+    t: Table,
     queue: &[u32],
     prev: &[u32],
     via: &[u32],
     found: usize,
     wanted: bool,
 ) -> io::Result<()>
-    requires below { (j : ℕ) → j < found → slice_index queue.now j < t.table.classes }
+    requires below { (j : ℕ) → j < found → slice_index queue.now j < t.classes }
     requires falls { (j : ℕ) → 0 < j → j < found → slice_index prev.now j < j }
     requires room { (found ≤ length queue.now) × ((found ≤ length prev.now) × (found ≤ length via.now)) }
 {
-    let Some(j) = first(t.table, queue, 0, found, wanted) else {
+    let Some(j) = first(t, queue, 0, found, wanted) else {
         return println!(rt; "first {wanted}: none");
     };
     let n = word_length(prev, j);
@@ -63,6 +63,6 @@ pub fn search_case<'a>(
     print!(rt; "search:")?;
     tell_numbers(rt, queue, found)?;
     println!(rt; "")?;
-    word_case(rt, t, queue, prev, via, found, true)?;
-    word_case(rt, t, queue, prev, via, found, false)
+    word_case(rt, t.table, queue, prev, via, found, true)?;
+    word_case(rt, t.table, queue, prev, via, found, false)
 }

@@ -10,4 +10,4 @@ returns-clause-so_far c =
     let s = c.loop-a in
     let all : s.a ≡ 2 ^ c.args.t.sets = omega arith in
     seeking_row c.args.t.sets t.classes (entry t.rows.now t.width) s.self.count s.self.queue.now s.self.number.now s.self.prev.now s.self.via.now c.args.i
-    (subst (Seeks c.args.t s.self c.args.i) all s.invariant.2)
+    (subst (Seeks c.args.t.sets t s.self c.args.i) all s.invariant.2)
