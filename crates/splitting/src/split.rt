@@ -143,8 +143,8 @@ fn split_all(
     }
 }
 
-// Parts the classes into those that are alike: `part` gets the part of each class, and the number of parts is returned. The parts are numbered as they came.
-pub fn split(t: WordTable, part: &mut [u32], scratch: &mut Scratch) -> usize
+// Parts the classes into those that are alike: `part` gets the part of each class. The parts are numbered as they came.
+pub fn split(t: WordTable, part: &mut [u32], scratch: &mut Scratch)
     requires some { 0 < t.table.classes }
     requires few { t.table.classes < 2 ^ 32 }
     requires part { t.table.classes ≤ length part.old }
@@ -182,5 +182,4 @@ pub fn split(t: WordTable, part: &mut [u32], scratch: &mut Scratch) -> usize
     let members = &mut *scratch.members;
     start(t, &mut places, &mut parting, &mut marks);
     split_all(lists, &mut places, &mut parting, &mut marks, members);
-    parting.count
 }
