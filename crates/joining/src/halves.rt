@@ -1,4 +1,4 @@
-// Parts split by one that waits, the smaller piece of what comes apart waiting in its turn.
+// Parts split by the smaller half, and numbered by their first classes.
 ghost use Rattle.std.specs.Prelude.{◌≡◌, ◌+◌, ◌*◌, ◌^◌, ◌<◌, ◌≤◌, true, length, slice_index};
 ghost use Rattle.automata.specs.Joined.{Joined};
 ghost use Rattle.tables.specs.Cells.{entry};
@@ -19,6 +19,8 @@ pub fn splits(t: Table, index: &[u32]) -> bool
 }
 
 // Parts the classes into those that are alike, as join does. The parts, numbered as they came, are numbered again by their first classes: by column 0, which splits none of them.
+// Splitting writes the parts to cls, and takes as scratch, each of a word for a class: cur, lefts, rights and firsts, and what is cut from index: two lists of a word for each entry of the table,
+// three words for each class, and the rest for the columns that repeat an earlier one, as many of them as fit.
 pub fn join_by_splitting(
     t: WordTable,
     cls: &mut [u32],

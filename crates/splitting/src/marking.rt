@@ -1,7 +1,7 @@
 // Classes marked: those of a part that are marked stand at its begin, before its `cut`.
 ghost use Rattle.std.specs.Prelude.{◌≡◌, ℕ, ◌^◌, ◌<◌, ◌≤◌, true, length, slice_index};
 ghost use Rattle.tables.specs.View.{moves, accepting};
-ghost use Rattle.splitting.specs.Places.{Arranged, Touched, Grown};
+ghost use Rattle.splitting.specs.Lent.{Stand, AreTouched, AlsoMarked};
 
 use crate::comers::Column;
 use crate::places::{Marks, Parting, Places, swap};
@@ -25,9 +25,9 @@ fn mark(
     tail: usize,
 ) -> usize
     requires class { (p.0 < classes) × (classes < 2 ^ 32) }
-    requires arranged { Arranged classes parting.now.count places.old.order.now places.old.place.now parting.now.part.now parting.now.begin.now parting.now.end.now marks.old.cut.now }
-    requires touched { Touched classes parting.now.count parting.now.begin.now marks.old.cut.now marks.old.touched.now 0 tail }
-    ensures { Grown classes parting.now.count (λ q. q ≡ p.0) places.old.place.now parting.now.part.now parting.now.begin.now parting.now.end.now marks.old.cut.now places.new.order.now places.new.place.now marks.new.cut.now marks.new.touched.now result }
+    requires arranged { Stand classes places.old parting.now marks.old.cut.now }
+    requires touched { AreTouched classes parting.now marks.old tail }
+    ensures { AlsoMarked classes (λ q. q ≡ p.0) parting.now places.old marks.old places.new marks.new result }
 {
     let c = parting.part[p.0 as usize] as usize;
     let at = marks.cut[c];
@@ -56,9 +56,9 @@ fn mark_comers(
     tail: usize,
 ) -> usize
     requires class { r.0 < column.table.classes }
-    requires arranged { Arranged column.table.classes parting.now.count places.old.order.now places.old.place.now parting.now.part.now parting.now.begin.now parting.now.end.now marks.old.cut.now }
-    requires touched { Touched column.table.classes parting.now.count parting.now.begin.now marks.old.cut.now marks.old.touched.now 0 tail }
-    ensures { Grown column.entry.table.classes parting.now.count (λ q. moves column.entry.table q column.entry.number ≡ r.0) places.old.place.now parting.now.part.now parting.now.begin.now parting.now.end.now marks.old.cut.now places.new.order.now places.new.place.now marks.new.cut.now marks.new.touched.now result }
+    requires arranged { Stand column.table.classes places.old parting.now marks.old.cut.now }
+    requires touched { AreTouched column.table.classes parting.now marks.old tail }
+    ensures { AlsoMarked column.entry.table.classes (λ q. moves column.entry.table q column.entry.number ≡ r.0) parting.now places.old marks.old places.new marks.new result }
 {
     let t = column.table;
     let a = column.number;
@@ -82,9 +82,9 @@ pub fn mark_column(
     marks: &mut Marks,
 ) -> usize
     requires members { (i : ℕ) → i < splitter.size → slice_index splitter.members.now i < column.table.classes }
-    requires arranged { Arranged column.table.classes parting.now.count places.old.order.now places.old.place.now parting.now.part.now parting.now.begin.now parting.now.end.now marks.old.cut.now }
-    requires touched { Touched column.table.classes parting.now.count parting.now.begin.now marks.old.cut.now marks.old.touched.now 0 0 }
-    ensures { Grown column.entry.table.classes parting.now.count (λ q. (i : ℕ) × (i < splitter.entry.size) × (slice_index splitter.entry.members.now i ≡ moves column.entry.table q column.entry.number)) places.old.place.now parting.now.part.now parting.now.begin.now parting.now.end.now marks.old.cut.now places.new.order.now places.new.place.now marks.new.cut.now marks.new.touched.now result }
+    requires arranged { Stand column.table.classes places.old parting.now marks.old.cut.now }
+    requires touched { AreTouched column.table.classes parting.now marks.old 0 }
+    ensures { AlsoMarked column.entry.table.classes (λ q. (i : ℕ) × (i < splitter.entry.size) × (slice_index splitter.entry.members.now i ≡ moves column.entry.table q column.entry.number)) parting.now places.old marks.old places.new marks.new result }
 {
     let mut tail = 0;
     for i in 0..splitter.size {
@@ -98,9 +98,9 @@ pub fn mark_column(
 // Invariant: those before q are marked.
 pub fn mark_accepting(t: Table, places: &mut Places, parting: &Parting, marks: &mut Marks) -> usize
     requires few { t.classes < 2 ^ 32 }
-    requires arranged { Arranged t.classes parting.now.count places.old.order.now places.old.place.now parting.now.part.now parting.now.begin.now parting.now.end.now marks.old.cut.now }
-    requires touched { Touched t.classes parting.now.count parting.now.begin.now marks.old.cut.now marks.old.touched.now 0 0 }
-    ensures { Grown t.entry.classes parting.now.count (λ q. accepting t.entry q ≡ true) places.old.place.now parting.now.part.now parting.now.begin.now parting.now.end.now marks.old.cut.now places.new.order.now places.new.place.now marks.new.cut.now marks.new.touched.now result }
+    requires arranged { Stand t.classes places.old parting.now marks.old.cut.now }
+    requires touched { AreTouched t.classes parting.now marks.old 0 }
+    ensures { AlsoMarked t.entry.classes (λ q. accepting t.entry q ≡ true) parting.now places.old marks.old places.new marks.new result }
 {
     let mut tail = 0;
     for q in 0..t.classes {

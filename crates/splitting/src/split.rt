@@ -30,9 +30,10 @@
 ghost use Rattle.std.specs.Prelude.{◌≡◌, ℕ, ◌+◌, ◌*◌, ◌^◌, ◌<◌, ◌≤◌, length, slice_index};
 ghost use Rattle.automata.specs.Joined.{Stable};
 ghost use Rattle.tables.specs.View.{moves, accepting};
-ghost use Rattle.splitting.specs.Places.{Arranged, Unmarked};
+ghost use Rattle.splitting.specs.Places.{Unmarked};
 ghost use Rattle.splitting.specs.Repeats.{Repeats};
-ghost use Rattle.splitting.specs.Split.{Room, Waiting, Cleft};
+ghost use Rattle.splitting.specs.Split.{Room, Cleft};
+ghost use Rattle.splitting.specs.Lent.{Stand, PartsWait};
 
 use crate::comers::{Column, Lists, list_comers};
 use crate::cutting::cut_touched;
@@ -47,7 +48,7 @@ fn start(t: WordTable, places: &mut Places, parting: &mut Parting, marks: &mut M
     requires some { (0 < t.table.classes) × (t.table.classes < 2 ^ 32) }
     requires placed { (t.table.classes ≤ length places.old.order.now) × (t.table.classes ≤ length places.old.place.now) × (t.table.classes ≤ length parting.old.part.now) }
     requires bounded { (t.table.classes ≤ length parting.old.begin.now) × (t.table.classes ≤ length parting.old.end.now) × (t.table.classes ≤ length marks.old.cut.now) × (t.table.classes ≤ length marks.old.touched.now) }
-    ensures waiting { Waiting t.entry.sets t.entry.table.classes (moves t.entry.table) (accepting t.entry.table) parting.new.count 1 places.new.order.now places.new.place.now parting.new.part.now parting.new.begin.now parting.new.end.now marks.new.cut.now }
+    ensures waiting { PartsWait t.entry 1 places.new parting.new marks.new }
     ensures room { t.entry.table.classes ≤ length marks.new.touched.now }
     ensures same_part { parting.new.part.ghost_name ≡ parting.old.part.ghost_name }
 {
@@ -68,9 +69,12 @@ fn split_column(
 )
     requires members { (i : ℕ) → i < splitter.size → slice_index splitter.members.now i < column.table.classes }
     requires room { column.table.classes ≤ length marks.old.touched.now }
-    requires arranged { Arranged column.table.classes parting.old.count places.old.order.now places.old.place.now parting.old.part.now parting.old.begin.now parting.old.end.now marks.old.cut.now }
+    requires arranged { Stand column.table.classes places.old parting.old marks.old.cut.now }
     requires clean { Unmarked parting.old.count parting.old.begin.now marks.old.cut.now }
-    ensures cleft { Cleft column.entry.table.classes parting.old.count (λ q. moves column.entry.table q column.entry.number) splitter.entry.members.now splitter.entry.size parting.old.part.now parting.new.count places.new.order.now places.new.place.now parting.new.part.now parting.new.begin.now parting.new.end.now marks.new.cut.now }
+    ensures cleft { Cleft column.entry.table.classes parting.old.count
+        (λ q. moves column.entry.table q column.entry.number)
+        splitter.entry.members.now splitter.entry.size parting.old.part.now
+        parting.new.count places.new.order.now places.new.place.now parting.new.part.now parting.new.begin.now parting.new.end.now marks.new.cut.now }
     ensures room { column.entry.table.classes ≤ length marks.new.touched.now }
     ensures same_part { parting.new.part.ghost_name ≡ parting.old.part.ghost_name }
 {
@@ -92,8 +96,8 @@ fn split_by(
     requires part { b < parting.old.count }
     requires repeats { Repeats lists.table.table.classes lists.table.table.width (moves lists.table.table) lists.repeats.now }
     requires room { (lists.table.table.classes ≤ length marks.old.touched.now) × (lists.table.table.classes ≤ length members.old) }
-    requires waiting { Waiting lists.table.sets lists.table.table.classes (moves lists.table.table) (accepting lists.table.table) parting.old.count b places.old.order.now places.old.place.now parting.old.part.now parting.old.begin.now parting.old.end.now marks.old.cut.now }
-    ensures waiting { Waiting lists.entry.table.sets lists.entry.table.table.classes (moves lists.entry.table.table) (accepting lists.entry.table.table) parting.new.count (b + 1) places.new.order.now places.new.place.now parting.new.part.now parting.new.begin.now parting.new.end.now marks.new.cut.now }
+    requires waiting { PartsWait lists.table b places.old parting.old marks.old }
+    ensures waiting { PartsWait lists.entry.table (b + 1) places.new parting.new marks.new }
     ensures room { lists.entry.table.table.classes ≤ length marks.new.touched.now }
     ensures same_part { parting.new.part.ghost_name ≡ parting.old.part.ghost_name }
 {
@@ -124,7 +128,7 @@ fn split_all(
 )
     requires repeats { Repeats lists.table.table.classes lists.table.table.width (moves lists.table.table) lists.repeats.now }
     requires room { (lists.table.table.classes ≤ length marks.old.touched.now) × (lists.table.table.classes ≤ length members.old) }
-    requires waiting { Waiting lists.table.sets lists.table.table.classes (moves lists.table.table) (accepting lists.table.table) parting.old.count 1 places.old.order.now places.old.place.now parting.old.part.now parting.old.begin.now parting.old.end.now marks.old.cut.now }
+    requires waiting { PartsWait lists.table 1 places.old parting.old marks.old }
     ensures stable { Stable lists.entry.table.sets lists.entry.table.table.classes (moves lists.entry.table.table) (accepting lists.entry.table.table) (λ q. slice_index parting.new.part.now q) }
     ensures below { (q : ℕ) → q < lists.entry.table.table.classes → slice_index parting.new.part.now q < lists.entry.table.table.classes }
     ensures same_part { parting.new.part.ghost_name ≡ parting.old.part.ghost_name }
@@ -139,8 +143,8 @@ fn split_all(
     }
 }
 
-// Parts the classes into those that are alike: `part` gets the part of each class, and the number of parts is returned. The parts are numbered as they came.
-pub fn split(t: WordTable, part: &mut [u32], scratch: &mut Scratch) -> usize
+// Parts the classes into those that are alike: `part` gets the part of each class. The parts are numbered as they came.
+pub fn split(t: WordTable, part: &mut [u32], scratch: &mut Scratch)
     requires some { 0 < t.table.classes }
     requires few { t.table.classes < 2 ^ 32 }
     requires part { t.table.classes ≤ length part.old }
@@ -178,5 +182,4 @@ pub fn split(t: WordTable, part: &mut [u32], scratch: &mut Scratch) -> usize
     let members = &mut *scratch.members;
     start(t, &mut places, &mut parting, &mut marks);
     split_all(lists, &mut places, &mut parting, &mut marks, members);
-    parting.count
 }
