@@ -55,7 +55,10 @@ fn samples() -> Vec<(String, Sample)> {
     for sets in [4, 6] {
         family("orders", sets, claims::orders(sets as u8));
     }
-    samples.extend(RULES.map(|(name, hex)| (name.to_string(), from_hex(hex.trim_ascii()))));
+    for line in RULES.lines() {
+        let (name, hex) = line.split_once(' ').expect("a name and bytes");
+        samples.push((name.to_string(), from_hex(hex)));
+    }
     samples
 }
 
@@ -67,6 +70,6 @@ fn from_hex(hex: &str) -> Sample {
     Sample { sets, part }
 }
 
-/// Claims about rules, as bytes: `modules`, a row of modules that is allowed and in which nothing can move, the first with 27 columns; `rule`,
-/// a rule about four sets, kept by a step.
-const RULES: [(&str, &str); 2] = [("modules", include_str!("../modules.hex")), ("rule", include_str!("../rule.hex"))];
+/// Claims about rules, a name and bytes a line. `modules`: a row of modules is allowed and nothing can move in it, the first with 27 columns;
+/// `rule`: a rule about four sets is kept by a step. Those behind them are what `bench/rule_claims` prints, of examples/rules.
+const RULES: &str = include_str!("../rules.txt");
