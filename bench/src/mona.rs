@@ -2,6 +2,7 @@
 
 use std::fmt::Write;
 use std::io;
+use std::path::Path;
 use std::process::Command;
 
 use ceivuron::Answer;
@@ -82,15 +83,15 @@ impl Shortest {
     }
 
     /// By MONA, of the claim in a file.
-    pub fn by_mona(path: &str) -> io::Result<Shortest> {
-        let output = Command::new("mona").args(["-q", path]).output()?;
+    pub fn by_mona(path: &Path) -> io::Result<Shortest> {
+        let output = Command::new("mona").arg("-q").arg(path).output()?;
         let text = String::from_utf8_lossy(&output.stdout);
         let length = |sort: &str| {
             let (_, rest) = text.split_once(&format!("{sort} of least length ("))?;
             rest.split_once(')')?.0.parse().ok()
         };
         if !output.status.success() {
-            return Err(io::Error::other(format!("mona on {path}: {text}")));
+            return Err(io::Error::other(format!("mona on {}: {text}", path.display())));
         }
         Ok(Shortest { holds: length("satisfying example"), fails: length("counter-example") })
     }

@@ -1,6 +1,9 @@
-//! CPU times: the user time of child processes, and the time of this process.
+//! CPU times, user and system together: of a process that is run, and of a function.
 
-use std::io::{self, Write};
+use std::ffi::OsString;
+use std::fs::File;
+use std::io;
+use std::path::PathBuf;
 use std::process::{Command, Stdio};
 use std::time::Duration;
 
@@ -13,12 +16,56 @@ struct Usage {
     counts: [i64; 14],
 }
 
-const CHILDREN: i32 = -1;
 const PROCESS_CPU: i32 = 2;
 
 unsafe extern "C" {
-    fn getrusage(who: i32, usage: *mut Usage) -> i32;
+    fn wait4(process: i32, status: *mut i32, options: i32, usage: *mut Usage) -> i32;
     fn clock_gettime(clock: i32, time: *mut [i64; 2]) -> i32;
+}
+
+/// A program, its arguments, and the file that is its standard input.
+pub struct Program {
+    pub path: PathBuf,
+    pub args: Vec<OsString>,
+    pub input: PathBuf,
+}
+
+impl Program {
+    /// The CPU time of one run.
+    pub fn run(&self) -> io::Result<Duration> {
+        let child = Command::new(&self.path)
+            .args(&self.args)
+            .stdin(File::open(&self.input)?)
+            .stdout(Stdio::null())
+            .stderr(Stdio::null())
+            .spawn()?;
+        let (mut status, mut usage) = (0, Usage::default());
+        // Sound: the struct is as large as the system's, and both live until the call returns. Nobody else waits for the child.
+        let ended = unsafe { wait4(child.id() as i32, &mut status, 0, &mut usage) };
+        if ended < 0 {
+            return Err(io::Error::last_os_error());
+        }
+        if status != 0 {
+            return Err(io::Error::other(format!("{} ended with status {status}", self.path.display())));
+        }
+        let time = |[seconds, micros]: [i64; 2]| Duration::new(seconds as u64, micros as u32 * 1000);
+        Ok(time(usage.user) + time(usage.system))
+    }
+}
+
+/// How long each program is run in all, where one run is short.
+const EACH: Duration = Duration::from_millis(500);
+
+/// The least CPU time of each of the programs. They take turns, as often as the slowest of them is run in half a second: 5 to 200 times.
+pub fn least_times(programs: &[Program]) -> io::Result<Vec<Duration>> {
+    let round = || programs.iter().map(Program::run).collect::<io::Result<Vec<Duration>>>();
+    let mut least = round()?;
+    let longest = least.iter().max().map_or(1, |time| time.as_micros().max(1));
+    let rounds = (EACH.as_micros() / longest).clamp(5, 200);
+    for _ in 1..rounds {
+        least = least.into_iter().zip(round()?).map(|(a, b)| a.min(b)).collect();
+    }
+    Ok(least)
 }
 
 /// The CPU time of this process so far.
@@ -31,7 +78,7 @@ fn own() -> Duration {
 }
 
 /// The CPU time of a function, on average over as many runs as take 20 ms, at least one; the first run is not counted.
-pub fn measure_call(mut call: impl FnMut()) -> Duration {
+fn average(call: &mut dyn FnMut()) -> Duration {
     call();
     let begin = own();
     let mut runs = 0;
@@ -45,30 +92,13 @@ pub fn measure_call(mut call: impl FnMut()) -> Duration {
     }
 }
 
-/// The user CPU time of all children that have ended and were waited for.
-fn children() -> Duration {
-    let mut usage = Usage::default();
-    // Sound: the struct is as large as the system's, and lives until the call returns.
-    let status = unsafe { getrusage(CHILDREN, &mut usage) };
-    assert_eq!(status, 0, "getrusage");
-    Duration::new(usage.user[0] as u64, usage.user[1] as u32 * 1000)
-}
-
-/// The user CPU time of a process, on average over so many runs: the system's clock is too coarse for one short run.
-pub fn measure(program: &str, args: &[&str], input: &str, runs: u32) -> io::Result<Duration> {
-    let before = children();
-    for _ in 0..runs {
-        let mut child = Command::new(program)
-            .args(args)
-            .stdin(Stdio::piped())
-            .stdout(Stdio::null())
-            .stderr(Stdio::null())
-            .spawn()?;
-        // a program that does not read its input may be gone already
-        let _ = child.stdin.take().expect("it is piped").write_all(input.as_bytes());
-        if !child.wait()?.success() {
-            return Err(io::Error::other(format!("{program} failed")));
+/// The least of five averages of each of the functions, which take turns.
+pub fn least_averages<const N: usize>(mut calls: [&mut dyn FnMut(); N]) -> [Duration; N] {
+    let mut least = [Duration::MAX; N];
+    for _ in 0..5 {
+        for (least, call) in least.iter_mut().zip(&mut calls) {
+            *least = average(call).min(*least);
         }
     }
-    Ok((children() - before) / runs)
+    least
 }

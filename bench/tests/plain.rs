@@ -1,10 +1,12 @@
-//! Plain Rust answers as the proved call does: on the benchmark's claims of up to six sets, and on the proved program's test lines.
+//! Plain Rust answers as the proved call does: on the benchmark's claims of up to six sets, on the proved program's test lines, and on
+//! claims made at random.
 
 use std::fs;
 use std::path::Path;
 
-use ceivuron::Judge;
 use ceivuron::line::read_line;
+use ceivuron::second::random::Random;
+use ceivuron::{Claim, Judge};
 use ceivuron_bench::plain::Plain;
 
 #[test]
@@ -30,4 +32,16 @@ fn answers_alike() {
         compared += 1;
     }
     assert!(compared > 200, "{compared}");
+}
+
+#[test]
+fn answers_alike_at_random() {
+    let (mut random, mut judge, mut plain) = (Random::new(1), Judge::new(), Plain::default());
+    for _ in 0..1000 {
+        let sets = 1 + random.below(5) as u8;
+        let signs = 4 + random.below(60);
+        let claim = Claim::new(sets, &random.claim(sets, signs, 4));
+        let most = 1 + random.below(300) as u32;
+        assert_eq!(plain.judge(claim.bytes(), most), judge.judge(&claim, most).unwrap(), "{most} {claim:?}");
+    }
 }

@@ -36,6 +36,7 @@ mod memory;
 pub mod part;
 pub mod progress;
 pub mod second;
+pub mod start;
 
 pub use answer::Answer;
 pub use call::{Verdict, call};

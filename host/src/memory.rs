@@ -10,6 +10,10 @@ pub fn floor(claim: &[u8], most: u32) -> u128 {
     8192 + 64 * claim.len() as u128 + (n + 1) * ((16 << sets) + 256 + n)
 }
 
+/// The fewest words that a buffer takes: 256 KiB. So much the allocator takes from the system for us alone, 0 already and in no page
+/// until it is touched; what is smaller it takes from memory that it has, and fills it with 0.
+const LEAST: usize = 1 << 16;
+
 /// Words that are kept from call to call and replaced by more when more are asked for.
 #[derive(Default)]
 pub(crate) struct Buffer {
@@ -22,7 +26,7 @@ impl Buffer {
         if self.words.len() < count {
             // What the old words held does not matter, so they are given back first.
             self.words = Vec::new();
-            self.words = zeroed(count)?;
+            self.words = zeroed(count.max(LEAST))?;
         }
         Some(&mut self.words[..count])
     }

@@ -1,14 +1,18 @@
 //! Progress on standard error, where that is a terminal.
 
-use std::io::{IsTerminal, Write, stderr};
+use std::io::{self, IsTerminal, Write, stderr};
 use std::time::{Duration, Instant};
 
 /// How often the line is written again.
 const EVERY: Duration = Duration::from_millis(200);
 
-/// Lines done, of how many where that is known, and lines a second: one line that is overwritten.
+/// Lines done, of how many where that is known, and lines a second: one line that is overwritten. Where no terminal shows it,
+/// nothing is counted and no clock is read.
 pub struct Progress {
-    shown: bool,
+    shown: Option<Figures>,
+}
+
+struct Figures {
     total: Option<u64>,
     begin: Instant,
     last: Instant,
@@ -16,31 +20,44 @@ pub struct Progress {
 }
 
 impl Progress {
-    pub fn new(total: Option<u64>) -> Progress {
+    /// `total` is asked only where progress is shown.
+    pub fn new(total: impl FnOnce() -> io::Result<Option<u64>>) -> io::Result<Progress> {
+        if !stderr().is_terminal() {
+            return Ok(Progress { shown: None });
+        }
+        let total = total()?;
         let now = Instant::now();
-        Progress { shown: stderr().is_terminal(), total, begin: now, last: now, done: 0 }
+        Ok(Progress { shown: Some(Figures { total, begin: now, last: now, done: 0 }) })
     }
 
     /// One more line is done.
     pub fn step(&mut self) {
-        self.done += 1;
-        if self.shown && self.last.elapsed() >= EVERY {
-            self.last = Instant::now();
-            self.write("");
+        if let Some(figures) = &mut self.shown {
+            figures.step();
         }
     }
 
     /// Clears the line, so that a message can stand in its place.
     pub fn clear(&self) {
-        if self.shown {
+        if self.shown.is_some() {
             let _ = write!(stderr(), "\r\x1b[K");
         }
     }
 
     /// Writes the last figures, and ends the line.
     pub fn end(&self) {
-        if self.shown {
-            self.write("\n");
+        if let Some(figures) = &self.shown {
+            figures.write("\n");
+        }
+    }
+}
+
+impl Figures {
+    fn step(&mut self) {
+        self.done += 1;
+        if self.last.elapsed() >= EVERY {
+            self.last = Instant::now();
+            self.write("");
         }
     }
 

@@ -14,7 +14,6 @@ fn main() -> ExitCode {
     let count = numbers.next().unwrap_or(1000);
     let mut random = Random::new(numbers.next().unwrap_or(1));
     let file = std::env::temp_dir().join(format!("agree-{}.mona", std::process::id()));
-    let path = file.to_str().expect("a path that is text");
     let mut judge = Judge::new();
     let (mut always, mut never, mut both, mut differences) = (0, 0, 0, 0);
     let mut depths = [0; 6];
@@ -36,7 +35,7 @@ fn main() -> ExitCode {
         *sort += 1;
         depths[depth(&part) as usize] += 1;
         fs::write(&file, text("made at random", sets, &part)).expect("a file in the folder for such files");
-        let mona = Shortest::by_mona(path).expect("mona runs");
+        let mona = Shortest::by_mona(&file).expect("mona runs");
         if mona != judged {
             differences += 1;
             let hex: String = claim.bytes().iter().map(|byte| format!("{byte:02x}")).collect();

@@ -1,48 +1,27 @@
-//! Measures the claims of a folder: `measure FOLDER JUDGE`, where JUDGE is the host's line tool. Prints a table.
-//!
-//! Of MONA and of the line tool the user CPU time of a whole process, of the call and of the same operations in plain Rust the CPU
-//! time of the call alone; each the best of five.
+//! Measures whole processes and the call: `measure FOLDER PROGRAMS`. FOLDER has the claims; PROGRAMS is a folder with `mona`, the host's
+//! `judge`, two C programs that do nothing, `empty` and `empty-static`, and the proved programs `judge_lines` and `settle`, if they are
+//! built. Prints the tables of docs/BENCHMARK.md.
 
 use std::fs;
 use std::path::Path;
 use std::process::Command;
 use std::time::Duration;
 
-use ceivuron::line::{Question, read_line};
-use ceivuron::{Judge, Verdict, call, floor};
-use ceivuron_bench::mona::Shortest;
+use ceivuron::line::Question;
+use ceivuron::{Verdict, call, floor};
+use ceivuron_bench::figures::{median, milliseconds, ratio};
 use ceivuron_bench::plain::Plain;
-use ceivuron_bench::usage::{measure, measure_call};
-
-const BEST_OF: usize = 5;
+use ceivuron_bench::samples::{Stored, stored};
+use ceivuron_bench::usage::{Program, least_averages, least_times};
 
 fn main() {
-    let args: Vec<String> = std::env::args().collect();
-    let [_, folder, judge] = &args[..] else { panic!("usage: measure FOLDER JUDGE") };
+    let args: Vec<String> = std::env::args().skip(1).collect();
+    let [folder, programs] = &args[..] else { panic!("usage: measure FOLDER PROGRAMS") };
+    let samples = stored(Path::new(folder)).expect("a folder of claims");
+    let programs = Path::new(programs);
     machine();
-    println!(
-        "| claim | k | n | MONA, process | host, process | host / MONA | call, proved | call, plain Rust | proved / plain |"
-    );
-    println!("|---|---|---|---|---|---|---|---|---|");
-    for name in names(Path::new(folder)) {
-        let path = |end: &str| format!("{folder}/{name}.{end}");
-        let line = fs::read_to_string(path("line")).expect("the line is there");
-        let question = read_line(line.trim_end().as_bytes()).expect("a line");
-        let mona = process("mona", &["-q", &path("mona")], "");
-        let host = process(judge, &["--memory", "16384"], &line);
-        let (proved, plain) = calls(&question, Shortest::by_mona(&path("mona")).expect("mona runs"));
-        println!(
-            "| {name} | {} | {} | {} | {} | {:.2} | {} | {} | {:.2} |",
-            question.claim.bytes()[0],
-            question.most,
-            shown(mona),
-            shown(host),
-            ratio(host, mona),
-            shown(proved),
-            shown(plain),
-            ratio(proved, plain)
-        );
-    }
+    starts(&samples[0], programs);
+    claims(&samples, programs);
 }
 
 /// The machine, and what was measured with.
@@ -55,7 +34,7 @@ fn machine() {
         String::from_utf8_lossy(&output).lines().next().unwrap_or_default().to_string()
     };
     println!(
-        "{}, {} cores; Linux {}; {}; {}. Times in milliseconds of CPU time, best of {BEST_OF}.\n",
+        "{}, {} cores; Linux {}; {}; {}. Times in milliseconds of CPU time, user and system.\n",
         cpu.map_or("unknown CPU", |(_, name)| name),
         std::thread::available_parallelism().map_or(1, |cores| cores.get()),
         file("/proc/sys/kernel/osrelease").trim_end(),
@@ -64,48 +43,92 @@ fn machine() {
     );
 }
 
-/// The claims of the folder, in the order of their names, `start` first.
-fn names(folder: &Path) -> Vec<String> {
-    let mut names: Vec<String> = fs::read_dir(folder)
-        .expect("the folder is there")
-        .filter_map(|entry| entry.ok()?.file_name().to_str()?.strip_suffix(".line").map(str::to_string))
-        .collect();
-    names.sort_by_key(|name| (name != "start", name.clone()));
-    names
+/// What a process takes that has nothing to do.
+fn starts(start: &Stored, folder: &Path) {
+    let mut names = vec![];
+    let mut programs = vec![];
+    for (name, file) in [
+        ("MONA", "mona"),
+        ("an empty C program", "empty"),
+        ("an empty C program, linked statically", "empty-static"),
+        ("host, `judge`", "judge"),
+        ("proved, `judge_lines`", "judge_lines"),
+        ("proved, `settle`", "settle"),
+    ] {
+        let path = folder.join(file);
+        // the proved programs need not be built
+        if path.exists() {
+            names.push(name);
+            programs.push(match file {
+                "mona" => mona(start, folder),
+                "settle" => Program { path, args: vec![], input: start.mona.clone() },
+                _ => Program { path, args: vec![], input: start.line.clone() },
+            });
+        }
+    }
+    let times = times(start, &programs);
+    println!("| a process with nothing to do | ms | / MONA |");
+    println!("|---|---|---|");
+    for (name, time) in names.iter().zip(&times) {
+        println!("| {name} | {} | {:.2} |", milliseconds(*time), ratio(*time, times[0]));
+    }
+    println!();
 }
 
-/// The best of five, each of as many runs as take some tenths of a second.
-fn process(program: &str, args: &[&str], input: &str) -> Duration {
-    let once = |runs| measure(program, args, input, runs).unwrap_or_else(|error| panic!("{program}: {error}"));
-    let runs = (Duration::from_millis(300).as_nanos() / once(1).as_nanos().max(1)).clamp(1, 120) as u32;
-    (0..BEST_OF).map(|_| once(runs)).min().expect("more than none")
-}
-
-/// The proved call and plain Rust, which must answer alike, and as MONA does.
-fn calls(question: &Question, mona: Shortest) -> (Duration, Duration) {
-    let Question { claim, most, .. } = question;
-    let (bytes, most) = (claim.bytes(), *most);
-    let mut plain = Plain::default();
-    let answer = Judge::with_limit(1 << 32).judge(claim, most).expect("memory");
-    assert_eq!(answer, plain.judge(bytes, most));
-    assert_eq!(Shortest::judged(&answer), Some(mona));
-    let mut work = vec![0; floor(bytes, most) as usize];
-    let mut out = vec![0; 2 * most as usize];
-    let best = |call: &mut dyn FnMut()| (0..BEST_OF).map(|_| measure_call(&mut *call)).min().expect("more than none");
-    let proved = best(&mut || assert_ne!(call(bytes, most, &mut out, &mut work), Verdict::Many));
-    let plain = best(&mut || assert!(!plain.judge(bytes, most).to_string().is_empty()));
-    (proved, plain)
-}
-
-fn shown(time: Duration) -> String {
-    let ms = time.as_secs_f64() * 1000.0;
-    match ms {
-        _ if ms < 0.1 => format!("{ms:.4}"),
-        _ if ms < 10.0 => format!("{ms:.2}"),
-        _ => format!("{ms:.0}"),
+fn mona(sample: &Stored, folder: &Path) -> Program {
+    Program {
+        path: folder.join("mona"),
+        args: vec!["-q".into(), sample.mona.clone().into()],
+        input: sample.line.clone(),
     }
 }
 
-fn ratio(a: Duration, b: Duration) -> f64 {
-    a.as_secs_f64() / b.as_secs_f64().max(1e-9)
+fn times(sample: &Stored, programs: &[Program]) -> Vec<Duration> {
+    least_times(programs).unwrap_or_else(|error| panic!("{}: {error}", sample.name))
+}
+
+fn claims(samples: &[Stored], folder: &Path) {
+    println!(
+        "| claim | k | n | MONA, process | host, process | host / MONA | call, proved | call, plain Rust | proved / plain |"
+    );
+    println!("|---|---|---|---|---|---|---|---|---|");
+    let (mut processes, mut calls) = (Vec::new(), Vec::new());
+    for sample in samples {
+        sample.agreed();
+        let memory = vec!["--memory".into(), "16384".into()];
+        let host = Program { path: folder.join("judge"), args: memory, input: sample.line.clone() };
+        let times = times(sample, &[mona(sample, folder), host]);
+        let [proved, plain] = both_calls(&sample.question);
+        println!(
+            "| {} | {} | {} | {} | {} | {:.2} | {} | {} | {:.2} |",
+            sample.name,
+            sample.sets(),
+            sample.question.most,
+            milliseconds(times[0]),
+            milliseconds(times[1]),
+            ratio(times[1], times[0]),
+            milliseconds(proved),
+            milliseconds(plain),
+            ratio(proved, plain)
+        );
+        processes.push(ratio(times[1], times[0]));
+        calls.push(ratio(proved, plain));
+    }
+    println!(
+        "\nThe median of host / MONA is {:.2}, that of proved / plain {:.2}, over {} claims.",
+        median(processes),
+        median(calls),
+        samples.len()
+    );
+}
+
+/// The call, proved and in plain Rust.
+fn both_calls(question: &Question) -> [Duration; 2] {
+    let (bytes, most) = (question.claim.bytes(), question.most);
+    let mut work = vec![0; floor(bytes, most) as usize];
+    let mut out = vec![0; 2 * most as usize];
+    let mut plain = Plain::default();
+    least_averages([&mut || assert_ne!(call(bytes, most, &mut out, &mut work), Verdict::Many), &mut || {
+        assert!(!plain.judge(bytes, most).to_string().is_empty())
+    }])
 }

@@ -1,9 +1,22 @@
-//! The first word that is accepted and the first that is not: a search over the classes, columns rising.
+//! The first word that is accepted and the first that is not: a search over the classes, columns rising, that ends once a class of either
+//! sort is found.
 
 use super::Table;
 use ceivuron::Answer;
 
 pub(super) fn answer(t: &Table) -> Answer {
+    // the first class has the empty word
+    let sort = t.accept[0];
+    match first_other(t) {
+        Some(word) if sort => Answer::Both { holds: Vec::new(), fails: word },
+        Some(word) => Answer::Both { holds: word, fails: Vec::new() },
+        None if sort => Answer::Always,
+        None => Answer::Never,
+    }
+}
+
+/// The first word of another sort than the empty one. Classes are found in the order of their first words.
+fn first_other(t: &Table) -> Option<Vec<u32>> {
     let mut queue = vec![0u32];
     let mut from = vec![(0u32, 0u32)];
     let mut seen = vec![false; t.classes()];
@@ -11,20 +24,19 @@ pub(super) fn answer(t: &Table) -> Answer {
     let mut i = 0;
     while i < queue.len() {
         for (column, to) in t.row(queue[i]).iter().enumerate() {
-            if !seen[*to as usize] {
-                seen[*to as usize] = true;
-                queue.push(*to);
-                from.push((i as u32, column as u32));
+            if seen[*to as usize] {
+                continue;
+            }
+            seen[*to as usize] = true;
+            queue.push(*to);
+            from.push((i as u32, column as u32));
+            if t.accept[*to as usize] != t.accept[0] {
+                return Some(word(&from, queue.len() - 1));
             }
         }
         i += 1;
     }
-    let first = |wanted: bool| queue.iter().position(|q| t.accept[*q as usize] == wanted);
-    match (first(true), first(false)) {
-        (None, _) => Answer::Never,
-        (_, None) => Answer::Always,
-        (Some(good), Some(bad)) => Answer::Both { holds: word(&from, good), fails: word(&from, bad) },
-    }
+    None
 }
 
 /// The word by which a class was found, read off backwards.

@@ -1,6 +1,7 @@
 //! The product of two tables: a class for each pair of classes that is reached.
 
-use super::{Pairs, Table};
+use super::Table;
+use super::pairs::Pairs;
 
 /// `None` where there are more than `most` pairs.
 pub(super) fn product(a: &Table, b: &Table, most: usize, pairs: &mut Pairs) -> Option<Table> {

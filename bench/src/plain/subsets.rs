@@ -8,7 +8,7 @@ pub(super) fn project(part: &Table, x: u8, most: usize) -> Option<Table> {
     let completed = completed(part, x);
     let mut sets = Sets::new(part.classes(), most);
     let start = sets.candidate();
-    if dead != Some(0) {
+    if dead != 0 {
         insert(start, 0);
     }
     sets.number(most);
@@ -31,9 +31,12 @@ pub(super) fn project(part: &Table, x: u8, most: usize) -> Option<Table> {
     Some(Table { rows, accept, width: part.width })
 }
 
-/// The class from which nothing is accepted, if there is one: every column leads back to it, and it does not accept.
-fn dead(t: &Table) -> Option<u32> {
-    (0..t.classes() as u32).find(|q| !t.accept[*q as usize] && t.row(*q).iter().all(|to| to == q))
+/// The class from which nothing is accepted: every column leads back to it, and it does not accept. Where there is none, a number that no
+/// class has.
+fn dead(t: &Table) -> u32 {
+    let classes = t.classes() as u32;
+    let is_dead = |q: &u32| !t.accept[*q as usize] && t.row(*q).iter().all(|to| to == q);
+    (0..classes).find(is_dead).unwrap_or(classes)
 }
 
 /// Which classes accept once columns follow in which at most set x has places: from the accepting ones back, by lists of the classes
@@ -100,13 +103,13 @@ impl Sets {
     }
 
     /// Makes the candidate the live classes to which two columns lead from those of set i.
-    fn follow(&mut self, t: &Table, i: usize, a: usize, b: usize, dead: Option<u32>) {
+    fn follow(&mut self, t: &Table, i: usize, a: usize, b: usize, dead: u32) {
         self.candidate();
         let (found, candidate) = self.rows.split_at_mut(self.count * self.words);
         for q in bits(&found[i * self.words..][..self.words]) {
             let row = t.row(q as u32);
             for to in [row[a], row[b]] {
-                if Some(to) != dead {
+                if to != dead {
                     insert(candidate, to as usize);
                 }
             }

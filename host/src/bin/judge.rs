@@ -3,14 +3,17 @@
 //! A line that is not of that form gets `line N: ...` on standard error and `error` on standard output, and the run goes
 //! on; the exit status is then 1.
 
+#![no_main]
+
+use std::ffi::{c_char, c_int};
 use std::fs::File;
 use std::io::{self, BufRead, BufReader, BufWriter, Read, Seek, SeekFrom, Write, stdin, stdout};
 use std::os::fd::AsFd;
-use std::process::ExitCode;
 use std::time::Instant;
 
 use ceivuron::line::{Question, read_line};
 use ceivuron::progress::Progress;
+use ceivuron::start;
 use ceivuron::{Judge, Refused};
 
 const USAGE: &str = "usage: judge [--time] [--memory MIB] < lines
@@ -36,7 +39,8 @@ fn options(mut words: impl Iterator<Item = String>) -> Option<Options> {
     Some(options)
 }
 
-/// How many lines are left on standard input, where it is a file: its line feeds are counted, and the file is put back.
+/// How many lines are left on standard input, where it is a file: its line feeds are counted, and the file is put back. That is
+/// asked only where progress is shown.
 fn count_lines() -> io::Result<Option<u64>> {
     let mut file = File::from(stdin().as_fd().try_clone_to_owned()?);
     if !file.metadata()?.is_file() {
@@ -70,7 +74,7 @@ fn answer(judge: &mut Judge, question: &Question) -> String {
 
 /// Judges all lines. Whether all were of the right form.
 fn run(options: &Options) -> io::Result<bool> {
-    let mut progress = Progress::new(count_lines()?);
+    let mut progress = Progress::new(count_lines)?;
     let mut input = BufReader::with_capacity(1 << 16, stdin());
     let mut output = BufWriter::new(stdout());
     let mut judge = Judge::with_limit(options.mebibytes.saturating_mul(1 << 18));
@@ -90,12 +94,11 @@ fn run(options: &Options) -> io::Result<bool> {
         let text = line.strip_suffix(b"\n").unwrap_or(&line);
         match read_line(text) {
             Ok(question) => {
-                let begin = Instant::now();
+                let begin = options.time.then(Instant::now);
                 let said = answer(&mut judge, &question);
-                if options.time {
-                    writeln!(output, "{said} {} us", begin.elapsed().as_micros())?;
-                } else {
-                    writeln!(output, "{said}")?;
+                match begin {
+                    Some(begin) => writeln!(output, "{said} {} us", begin.elapsed().as_micros())?,
+                    None => writeln!(output, "{said}")?,
                 }
             }
             Err(fault) => {
@@ -112,19 +115,28 @@ fn run(options: &Options) -> io::Result<bool> {
     Ok(fine)
 }
 
-fn main() -> ExitCode {
-    let Some(options) = options(std::env::args().skip(1)) else {
+/// The exit status: 0 if all lines were of the right form.
+fn judge(words: Vec<String>) -> c_int {
+    let Some(options) = options(words.into_iter()) else {
         eprintln!("{USAGE}");
-        return ExitCode::from(2);
+        return 2;
     };
     match run(&options) {
-        Ok(true) => ExitCode::SUCCESS,
-        Ok(false) => ExitCode::FAILURE,
+        Ok(true) => 0,
+        Ok(false) => 1,
         // whoever reads the answers has seen enough
-        Err(error) if error.kind() == io::ErrorKind::BrokenPipe => ExitCode::SUCCESS,
+        Err(error) if error.kind() == io::ErrorKind::BrokenPipe => 0,
         Err(error) => {
             eprintln!("judge: {error}");
-            ExitCode::FAILURE
+            1
         }
     }
+}
+
+/// Called by the C library, without Rust's runtime (see [`start`]).
+#[unsafe(no_mangle)]
+extern "C" fn main(count: c_int, words: *const *const c_char) -> c_int {
+    start::ignore_broken_pipes();
+    // Sound: these are what the system gave.
+    judge(unsafe { start::arguments(count, words) })
 }
