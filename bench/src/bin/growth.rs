@@ -1,5 +1,6 @@
-//! How the time grows: `growth` prints a line for each claim of some families, its family, what it grows with, k, n, and the milliseconds of
-//! CPU time of the proved call, of plain Rust, and of MONA's process, with tabs between them. `bench/plot` draws them.
+//! How the time grows: `growth` prints a line for each claim of some families, its family, what it grows with, k, n, the classes of all its
+//! parts, and the milliseconds of CPU time of the proved call, of plain Rust, and of MONA's process, with tabs between them. `bench/plot`
+//! draws them.
 
 use std::fs;
 use std::time::Duration;
@@ -11,7 +12,7 @@ use ceivuron_bench::plain::Plain;
 use ceivuron_bench::usage::{Program, least_averages, least_times};
 
 fn main() {
-    println!("family\tagainst\tk\tn\tcall\tplain\tmona");
+    println!("family\tagainst\tk\tn\tparts\tcall\tplain\tmona");
     for (family, against, samples) in families() {
         for sample in samples {
             measure(family, against, &sample);
@@ -41,6 +42,8 @@ fn measure(family: &str, against: &str, sample: &Sample) {
     let mut work = vec![0; floor(bytes, most) as usize];
     let mut out = vec![0; 2 * most as usize];
     let mut plain = Plain::default();
+    assert!(!plain.judge(bytes, most).to_string().is_empty());
+    let parts = plain.found();
     let [call, plain] =
         least_averages([&mut || assert_ne!(call(bytes, most, &mut out, &mut work), Verdict::Many), &mut || {
             assert!(!plain.judge(bytes, most).to_string().is_empty())
@@ -51,5 +54,5 @@ fn measure(family: &str, against: &str, sample: &Sample) {
     let times = least_times(&[mona]).expect("MONA runs");
     let _ = fs::remove_file(&file);
     let ms = |time: Duration| time.as_secs_f64() * 1000.0;
-    println!("{family}\t{against}\t{}\t{most}\t{:.4}\t{:.4}\t{:.4}", sample.sets, ms(call), ms(plain), ms(times[0]));
+    println!("{family}\t{against}\t{}\t{most}\t{parts}\t{:.4}\t{:.4}\t{:.4}", sample.sets, ms(call), ms(plain), ms(times[0]));
 }

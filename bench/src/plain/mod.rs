@@ -53,11 +53,18 @@ impl Table {
 #[derive(Default)]
 pub struct Plain {
     pairs: Pairs,
+    found: usize,
 }
 
 impl Plain {
+    /// How many classes the last claim's parts had in all, before those that are alike were joined: what there was to work out.
+    pub fn found(&self) -> usize {
+        self.found
+    }
+
     /// As the call answers.
     pub fn judge(&mut self, claim: &[u8], most: u32) -> Answer {
+        self.found = 0;
         let Some((sets, part)) = Part::read(claim) else { return Answer::NoClaim };
         if most == 0 {
             return Answer::Many;
@@ -91,7 +98,9 @@ impl Plain {
                 Some(self.join(&table))
             }
             leaf => {
-                let table = self.join(&leaf::explore(leaf, sets));
+                let states = leaf::explore(leaf, sets);
+                self.found += states.classes();
+                let table = self.join(&states);
                 (table.classes() <= most).then_some(table)
             }
         }
@@ -106,12 +115,16 @@ impl Plain {
         let (longer, shorter) = if c.size() < d.size() { (d, c) } else { (c, d) };
         let a = self.work_out(longer, sets, most)?;
         let b = self.work_out(shorter, sets, most)?;
-        product::product(&a, &b, most, &mut self.pairs)
+        let table = product::product(&a, &b, most, &mut self.pairs)?;
+        self.found += table.classes();
+        Some(table)
     }
 
     /// The sets of classes of a part that are reached whatever set x is, not joined.
     fn project(&mut self, x: u8, c: &Part, sets: u32, most: usize) -> Option<Table> {
         let part = self.work_out(c, sets, most)?;
-        subsets::project(&part, x, most)
+        let table = subsets::project(&part, x, most)?;
+        self.found += table.classes();
+        Some(table)
     }
 }
