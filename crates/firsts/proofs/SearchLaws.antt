@@ -1,12 +1,13 @@
 -- What each step of the search keeps, and what is known at its end.
-use Rattle.std.proofs.Common.{◌≡◌, ℕ, zero, suc, ◌+◌, ◌^◌, ◌<◌, ◌≤◌, List, [], ◌∷◌, ◌++◌, length, get_or, set, sym, ap, ◌∙◌, subst, inl, inr, add-one, arith}
+use Rattle.std.proofs.Common.{◌≡◌, ℕ, zero, suc, ◌+◌, ◌^◌, ◌<◌, ◌≤◌, Bool, true, false, not, List, [], ◌∷◌, ◌++◌, length, get_or, set, sym, ap, ◌∙◌, subst, inl, inr, add-one, arith}
 use native.Mathlib.Decide.{ℕ_discrete}
 use Rattle.std.proofs.lemmas.List.{get_or-set_same, get_or-set_other}
 use Rattle.words.specs.Words.{Word}
-use Rattle.automata.specs.Search.{Before, Exploring}
+use Rattle.automata.specs.Search.{Before, Explored, Exploring}
 use Rattle.automata.proofs.Counting.{pigeon}
 use Rattle.automata.proofs.Exploring.{exploring_start, exploring_row, exploring_old, exploring_new, exploring_end, upd, upd_here, upd_else}
-use Rattle.firsts.specs.Search.{Room, Among, Seeking, Searched}
+use Rattle.firsts.specs.Search.{Room, Among, Seeking}
+use Rattle.firsts.specs.First.{Somewhere}
 use Rattle.firsts.specs.Spell.{word}
 use Rattle.firsts.proofs.SpellLaws.{word_start, word_step}
 
@@ -144,7 +145,7 @@ module _ (k classes : ℕ) (δ : ℕ → ℕ → ℕ) where
         seeking_new queue' number' prev' via' r eq en ep ev = rw (eq, en, ep, ev, add-one m, add-one a) (written r)
 
     -- the words kept by the proof are those by prev and via
-    seeking_word : (i a : ℕ) (s : Seeking k classes δ m queue number prev via i a) (n j : ℕ) → j ≤ n → j < m → s.ws j ≡ word prev via j
+    pub seeking_word : (i a : ℕ) (s : Seeking k classes δ m queue number prev via i a) (n j : ℕ) → j ≤ n → j < m → s.ws j ≡ word prev via j
     seeking_word i a s n zero g h = s.so_far.empty ∙ sym (word_start prev via)
     seeking_word i a s zero (suc j) g h = let z : ⊥ = omega arith in absurd z
     seeking_word i a s (suc n) (suc j) g h =
@@ -153,22 +154,13 @@ module _ (k classes : ℕ) (δ : ℕ → ℕ → ℕ) where
         ∙ ap (λ w. w ++ (get_or via (suc j) 0 ∷ [])) (seeking_word i a s n (get_or prev (suc j) 0) (omega arith) (omega arith))
         ∙ sym (word_step prev via (suc j) (omega arith) (λ t l o. s.falls t l (omega arith)))
 
-    -- all classes that are found are followed
-    pub seeking_end : Seeking k classes δ m queue number prev via m 0 → Searched k classes δ m queue prev via
-    seeking_end s =
-        let (explored, ranked) = exploring_end k δ 0 m (λ j. get_or queue j 0) s.γ s.ws s.so_far in
-        let same : (j : ℕ) → j < m → s.ws j ≡ word prev via j = λ j h. seeking_word m 0 s j j (omega arith) h in
-        record {
-          γ = s.γ;
-          explored = explored;
-          ranked = record {
-            empty = word_start prev via;
-            columns = λ j h. rw (sym (same j h)) (ranked.columns j h);
-            arrives = λ j h. rw (sym (same j h)) (ranked.arrives j h);
-            least = λ p b h c. rw (sym (same p h), sym (same (s.γ p b) (explored.connected.closed p b h c))) (ranked.least p b h c);
-            sorted = λ p q h g. rw (sym (same p (omega arith)), sym (same q g)) (ranked.sorted p q h g);
-          };
-          few = s.few;
-          below = s.below;
-          falls = s.falls;
-        }
+    -- all classes that are found are followed: none is left out
+    pub seeking_end : (i : ℕ) (s : Seeking k classes δ m queue number prev via i 0) → i ≡ m → Explored k δ 0 m (λ j. get_or queue j 0) s.γ
+    seeking_end i s e = (exploring_end k δ 0 m (λ j. get_or queue j 0) s.γ s.ws (subst (λ i. Exploring k δ 0 m (λ j. get_or queue j 0) s.γ s.ws i 0) e s.so_far)).0
+
+-- number 0 is of one sort, and from i on is one of the other: there is one of each
+pub each_sort : (f : ℕ → Bool) (i m : ℕ) (start : Bool) → f 0 ≡ start → Somewhere f i m (not start) → (b : Bool) → Somewhere f 0 m b
+each_sort f i m true e (j, l, h, g) true = (0, omega arith, omega arith, e)
+each_sort f i m true e (j, l, h, g) false = (j, omega arith, h, g)
+each_sort f i m false e (j, l, h, g) true = (j, omega arith, h, g)
+each_sort f i m false e (j, l, h, g) false = (0, omega arith, omega arith, e)

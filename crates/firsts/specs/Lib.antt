@@ -2,3 +2,4 @@
 pub mod Spell
 pub mod Search
 pub mod First
+pub mod Found

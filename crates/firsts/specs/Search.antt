@@ -1,8 +1,8 @@
 -- A breadth-first search over the classes of a table, columns rising: classes are numbered as they are found, queue has the class of each number.
-use Rattle.std.specs.Prelude.{◌≡◌, ℕ, ◌<◌, ◌≤◌, List, [], ◌∷◌, ◌++◌, length, slice_index}
+use Rattle.std.specs.Prelude.{◌≡◌, ℕ, ◌<◌, ◌≤◌, ◌⊎◌, Bool, List, [], ◌∷◌, ◌++◌, length, slice_index}
 use Rattle.words.specs.Words.{Word}
-use Rattle.automata.specs.Search.{Explored, Exploring, Ranked}
-use Rattle.firsts.specs.Spell.{word}
+use Rattle.automata.specs.Search.{Exploring}
+use Rattle.firsts.specs.First.{Somewhere}
 
 -- memory for a number, a class or a column for each of so many classes
 pub record Room (classes : ℕ) (queue number prev via : List ℕ) : Type 0 where
@@ -31,11 +31,8 @@ pub record Seeking (k classes : ℕ) (δ : ℕ → ℕ → ℕ) (m : ℕ) (queue
   pub falls : (j : ℕ) → 0 < j → j < m → slice_index prev j < j
   pub last : (j : ℕ) → 0 < j → j < m → ws j ≡ ws (slice_index prev j) ++ (slice_index via j ∷ [])
 
--- the search is over: m classes are found, each once and none is left out, and the words by prev and via are their first words, in order
-pub record Searched (k classes : ℕ) (δ : ℕ → ℕ → ℕ) (m : ℕ) (queue prev via : List ℕ) : Type 0 where
-  pub γ : ℕ → ℕ → ℕ
-  pub explored : Explored k δ 0 m (λ j. slice_index queue j) γ
-  pub ranked : Ranked k m γ (word prev via)
-  pub few : m ≤ classes
-  pub below : (j : ℕ) → j < m → slice_index queue j < classes
-  pub falls : (j : ℕ) → 0 < j → j < m → slice_index prev j < j
+-- the search is over: all columns of the classes before number `row` are followed, and these are all classes found, or a class that accepts, as f says, is found and one that does not
+pub record Sought (k classes : ℕ) (δ : ℕ → ℕ → ℕ) (f : ℕ → Bool) (m : ℕ) (queue number prev via : List ℕ) : Type 0 where
+  pub row : ℕ
+  pub so_far : Seeking k classes δ m queue number prev via row 0
+  pub enough : (row ≡ m) ⊎ ((b : Bool) → Somewhere (λ j. f (slice_index queue j)) 0 m b)

@@ -6,13 +6,13 @@ ghost use Rattle.firsts.specs.First.{Foremost, Nowhere};
 
 use tables::cells::{Class, Table};
 
-// The number of the first class found that accepts (`wanted` is true) or does not (false), by the order in which they were found.
-pub fn first(t: Table, queue: &[u32], found: usize, wanted: bool) -> Option<usize>
+// The number of the first class found, from number `from` on, that accepts (`wanted` is true) or does not (false), by the order in which they were found.
+pub fn first(t: Table, queue: &[u32], from: usize, found: usize, wanted: bool) -> Option<usize>
     requires room { found ≤ length queue.now }
     requires below { (j : ℕ) → j < found → slice_index queue.now j < t.classes }
-    ensures { MatchOption result (Nowhere (λ j. accepting t.entry (slice_index queue.now j)) found wanted) (Foremost (λ j. accepting t.entry (slice_index queue.now j)) found wanted) }
+    ensures { MatchOption result (Nowhere (λ j. accepting t.entry (slice_index queue.now j)) from found wanted) (Foremost (λ j. accepting t.entry (slice_index queue.now j)) from found wanted) }
 {
-    for j in 0..found {
+    for j in from..found {
         if t.accepts(Class(queue[j])) == wanted {
             return Some(j);
         }

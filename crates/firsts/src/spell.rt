@@ -1,12 +1,13 @@
 // The word by which a class was found, read off backwards: from its number to the one from which it was found, and so on to number 0, which has the empty word. Numbers fall on the way.
-ghost use Rattle.std.specs.Prelude.{◌≡◌, ℕ, ◌<◌, List, length};
+ghost use Rattle.std.specs.Prelude.{◌≡◌, ℕ, ◌<◌, ◌≤◌, List, length};
 ghost use Rattle.firsts.specs.Spell.{word, Falls};
 
 // How long the word of number j is: the steps back from j to 0. On the way the steps done and the word of the number reached are together as long as the word of j.
 pub fn word_length(prev: &[u32], j: usize) -> usize
     requires room { j < length prev.now }
     requires falls { Falls prev.now j }
-    ensures { (via : List ℕ) → result ≡ length (word prev.now via j) }
+    ensures value { (via : List ℕ) → result ≡ length (word prev.now via j) }
+    ensures within { result ≤ j }
 {
     let mut at = j;
     let mut steps = 0;

@@ -7,6 +7,7 @@ use crate::judged::Judged;
 use claims::claim::claim_sets;
 use room::cut::{Work, cut_work};
 use room::floor::too_few;
+use working::wanted::Wanted;
 use working::working::work_out;
 
 // Whether the claim holds of all words, of none, or of which first; `most` is the largest number of classes that may be told apart at a part.
@@ -32,7 +33,17 @@ pub fn judge(claim: &[u8], most: u32, out: &mut [u32], work: &mut [u32]) -> Judg
         scratch,
         pairs,
     } = cut_work(work, 1usize << k, n);
-    let Some(m) = work_out(&claim[1..], k, n, rows, accept, free, scratch, pairs) else {
+    let Some(m) = work_out(
+        &claim[1..],
+        Wanted::Any,
+        k,
+        n,
+        rows,
+        accept,
+        free,
+        scratch,
+        pairs,
+    ) else {
         return Judged::Many;
     };
     answer(u32::from(k), n, rows, accept, m, scratch, out)

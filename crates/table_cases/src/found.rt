@@ -1,30 +1,29 @@
 // The search over the classes of a table, and the first words that it accepts and does not.
-ghost use Rattle.std.specs.Prelude.{◌≤◌, length};
-ghost use Rattle.tables.specs.View.{moves};
-ghost use Rattle.firsts.specs.Search.{Searched};
+ghost use Rattle.std.specs.Prelude.{ℕ, ◌<◌, ◌≤◌, length, slice_index};
 
 use crate::checked::{is_table, table};
 use crate::tell::tell_numbers;
 use firsts::first::first;
-use firsts::search::search;
+use firsts::search::{Found, search};
 use firsts::spell::{word_length, write_word};
 use std::io;
-use tables::cells::WordTable;
+use tables::cells::Table;
 
 // The first word that the table accepts (`wanted` is true) or does not (false), from the numbers of the search.
 fn word_case(
     rt: &HostRuntime,
-    t: WordTable,
+    t: Table,
     queue: &[u32],
     prev: &[u32],
     via: &[u32],
     found: usize,
     wanted: bool,
 ) -> io::Result<()>
-    requires searched { Searched t.sets t.table.classes (moves t.table) found queue.now prev.now via.now }
+    requires below { (j : ℕ) → j < found → slice_index queue.now j < t.classes }
+    requires falls { (j : ℕ) → 0 < j → j < found → slice_index prev.now j < j }
     requires room { (found ≤ length queue.now) × ((found ≤ length prev.now) × (found ≤ length via.now)) }
 {
-    let Some(j) = first(t.table, queue, found, wanted) else {
+    let Some(j) = first(t, queue, 0, found, wanted) else {
         return println!(rt; "first {wanted}: none");
     };
     let n = word_length(prev, j);
@@ -39,7 +38,7 @@ fn word_case(
     println!(rt; "")
 }
 
-// The classes as they are found, and the two first words.
+// The classes as they are found, up to the row with which one of each sort is found, and the two first words.
 pub fn search_case<'a>(
     rt: &HostRuntime,
     rows: &'a [u32],
@@ -54,10 +53,16 @@ pub fn search_case<'a>(
     let t = table(rows, accept, classes, 1);
     let (mut queue, mut number) = ([7u32; 64], [7u32; 64]);
     let (mut prev, mut via) = ([7u32; 64], [7u32; 64]);
-    let found = search(t, &mut queue, &mut number, &mut prev, &mut via);
+    let Found {
+        count: found,
+        queue,
+        prev,
+        via,
+        ..
+    } = search(t, &mut queue, &mut number, &mut prev, &mut via);
     print!(rt; "search:")?;
-    tell_numbers(rt, &queue, found)?;
+    tell_numbers(rt, queue, found)?;
     println!(rt; "")?;
-    word_case(rt, t, &queue, &prev, &via, found, true)?;
-    word_case(rt, t, &queue, &prev, &via, found, false)
+    word_case(rt, t.table, queue, prev, via, found, true)?;
+    word_case(rt, t.table, queue, prev, via, found, false)
 }

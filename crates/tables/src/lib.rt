@@ -3,4 +3,5 @@
 
 pub mod cells;
 pub mod complement;
+pub mod copy;
 pub mod numbering;

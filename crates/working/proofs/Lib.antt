@@ -1,3 +1,4 @@
+pub mod HandOnLaws
 pub mod WorkingLaws
 pub mod CombineLaws
 pub mod ProjectLaws

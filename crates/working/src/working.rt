@@ -3,6 +3,7 @@ ghost use Rattle.std.specs.Prelude.{◌^◌, ◌<◌, ◌≤◌, ◌∷◌, leng
 ghost use Rattle.working.specs.Working.{Halves, WorkedOut, Lent, IsPart};
 
 use crate::combine::{conjoin, project, work_leaf};
+use crate::wanted::Wanted;
 use claims::prefix::skip;
 use claims::sign::{Sign, read_sign};
 use leaves::kind::Kind;
@@ -25,12 +26,14 @@ fn two_parts(rest: &[u8], k: u8) -> (&[u8], &[u8])
     }
 }
 
-// The exact table of the part with these bytes, in `rows` and `accept`: how many classes it has, or none where it does not fit.
-// A part is worked out in prefix order: its sign, then its parts. Of the two parts of an and the longer is worked out first, with all free memory; the shorter has less than half
+// A table of the part with these bytes, in `rows` and `accept`, as it is wanted: how many classes it has, or none where the part does not fit.
+// A part is worked out in prefix order: its sign, then its parts. What a sign combines are exact tables, so only the outermost sign, or the first that is no `not`, may
+// leave its table as it is. Of the two parts of an and the longer is worked out first, with all free memory; the shorter has less than half
 // of the bytes, and finds room behind the table of the longer. So one slot of free memory for each doubling of the bytes suffices.
 // The bytes of the part fall with each call.
 pub fn work_out(
     part: &[u8],
+    wanted: Wanted,
     k: u8,
     most: usize,
     rows: &mut [u32],
@@ -42,7 +45,7 @@ pub fn work_out(
     requires part { IsPart k part.now }
     requires small { (0 < k) × (k ≤ 12) × (0 < most) × (most < 2 ^ 32) }
     requires lent { Lent (length part.now) k most (length rows.old) (length accept.old) (length free.old) (length scratch.old) (length pairs.old) }
-    ensures { WorkedOut k most part.now rows.new accept.new result }
+    ensures { WorkedOut wanted k most part.now rows.new accept.new result }
 {
     let sets = u32::from(k);
     let (sign, rest) = read_sign(part)?;
@@ -52,13 +55,23 @@ pub fn work_out(
         Sign::Next(x, y) => work_leaf(Kind::Next(x, y), sets, most, rows, accept, scratch),
         Sign::Before(x, y) => work_leaf(Kind::Before(x, y), sets, most, rows, accept, scratch),
         Sign::Not => {
-            let m = work_out(rest, k, most, rows, accept, free, scratch, pairs)?;
+            let m = work_out(rest, wanted, k, most, rows, accept, free, scratch, pairs)?;
             complement(accept, m);
             Some(m)
         }
         Sign::And => {
             let (longer, shorter) = two_parts(rest, k);
-            let m = work_out(longer, k, most, rows, accept, free, scratch, pairs)?;
+            let m = work_out(
+                longer,
+                Wanted::Exact,
+                k,
+                most,
+                rows,
+                accept,
+                free,
+                scratch,
+                pairs,
+            )?;
             let Slot {
                 rows: other_rows,
                 accept: other_accept,
@@ -66,6 +79,7 @@ pub fn work_out(
             } = cut_slot(free, 1usize << sets, most);
             let n = work_out(
                 shorter,
+                Wanted::Exact,
                 k,
                 most,
                 other_rows,
@@ -75,6 +89,7 @@ pub fn work_out(
                 pairs,
             )?;
             conjoin(
+                wanted,
                 sets,
                 most,
                 rows,
@@ -89,8 +104,18 @@ pub fn work_out(
             )
         }
         Sign::Some(x) => {
-            let m = work_out(rest, k, most, rows, accept, free, scratch, pairs)?;
-            project(x, sets, most, rows, accept, m, free, scratch, pairs)
+            let m = work_out(
+                rest,
+                Wanted::Exact,
+                k,
+                most,
+                rows,
+                accept,
+                free,
+                scratch,
+                pairs,
+            )?;
+            project(wanted, x, sets, most, rows, accept, m, free, scratch, pairs)
         }
     }
 }

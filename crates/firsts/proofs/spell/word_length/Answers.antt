@@ -11,7 +11,7 @@ loop-at-preserved c =
     let lower = falls c.loop-at.at above (omega arith) in
     (omega arith, λ via. omega (arith, same via, length_step c.args.prev.now via c.loop-at.at above falls))
 
-pub returns : goal.returns
-returns c via =
+pub returns-clause-value : goal.returns-clause-value
+returns-clause-value c via =
     let empty : length (word c.args.prev.now via c.loop-at.at) ≡ 0 = ap (λ i. length (word c.args.prev.now via i)) c.loop-at-test.false ∙ ap length (word_start c.args.prev.now via) in
     omega (arith, c.loop-at.invariant.1 via)

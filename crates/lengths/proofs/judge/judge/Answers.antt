@@ -2,6 +2,7 @@ use Rattle.std.proofs.Common.{◌≡◌, ◌*◌, ◌%◌, ◌^◌, sym, subst, 
 use Rattle.std.proofs.lemmas.Nat.{one_shl}
 use Rattle.claims.specs.Sizes.{Fits}
 use Rattle.lengths.specs.Answer.{Answered}
+use Rattle.working.specs.declared.wanted.Wanted.TheVariants.{Any}
 use Rattle.working.specs.Working.{Stands}
 use Rattle.lengths.proofs.JudgeLaws.{claim_few, claim_front, enough, judged_answer, judged_few, judged_many, judged_no_claim, lent_whole, work_enough}
 use Rattle.working.proofs.WorkingLaws.{columns_few, fits_none}
@@ -51,8 +52,8 @@ pub returns : goal.returns
 returns c =
     let (d, y) = c.in-Some.ensures.said in
     let e : c.from.result ≡ c.in-Some.k = c.from.ensures in
-    let t : Stands c.in-Some.k c.args.most d c.work_out.new.rows c.work_out.new.accept c.in-Some-work_out.m = c.in-Some-work_out.ensures d (claim_front c.args.claim.now c.in-Some.k d y) in
+    let t : Stands Any c.in-Some.k c.args.most d c.work_out.new.rows c.work_out.new.accept c.in-Some-work_out.m = c.in-Some-work_out.ensures d (claim_front c.args.claim.now c.in-Some.k d y) in
     judged_answer c.args.claim.now c.args.most c.args.out.now _ (enough _ c.too_few.result c.too_few.ensures c.if-too_few.false)
     c.in-Some.k d y c.answer.new.out t.1.fits c.answer.result
     (subst (λ k. Answered k d c.args.out.now c.answer.new.out c.answer.result) e
-    (c.answer.ensures d (subst (λ k. Stands k c.args.most d c.work_out.new.rows c.work_out.new.accept c.in-Some-work_out.m) (sym e) t)))
+    (c.answer.ensures d (subst (λ k. Stands Any k c.args.most d c.work_out.new.rows c.work_out.new.accept c.in-Some-work_out.m) (sym e) t)))
