@@ -46,9 +46,36 @@ fn zeroed(count: usize) -> Option<Vec<u32>> {
         if words.is_null() {
             return None;
         }
+        ask_for_large_pages(words, count);
         Some(Vec::from_raw_parts(words, count, count))
     }
 }
+
+/// From so many words on, 16 MiB, memory is taken from the system in pages of 2 MiB where it has them: the call uses much of it, and
+/// each page that is touched first costs a fault.
+const LARGE: usize = 1 << 22;
+
+/// Advice only: the words are what they were. Where it is not taken, nothing is lost.
+#[cfg(target_os = "linux")]
+fn ask_for_large_pages(words: *mut u32, count: usize) {
+    use std::ffi::{c_int, c_void};
+    const PAGE: usize = 4096;
+    const HUGE_PAGES: c_int = 14;
+    unsafe extern "C" {
+        fn madvise(begin: *mut c_void, bytes: usize, advice: c_int) -> c_int;
+    }
+    if count >= LARGE {
+        let skipped = words.cast::<u8>().align_offset(PAGE);
+        let bytes = (4 * count - skipped) / PAGE * PAGE;
+        // Sound: the pages are all within these words, and this advice changes nothing that they hold.
+        unsafe {
+            madvise(words.cast::<u8>().add(skipped).cast(), bytes, HUGE_PAGES);
+        }
+    }
+}
+
+#[cfg(not(target_os = "linux"))]
+fn ask_for_large_pages(_words: *mut u32, _count: usize) {}
 
 #[cfg(test)]
 mod tests {
