@@ -36,16 +36,18 @@ fn source_folders(root: &Path) -> Vec<PathBuf> {
     let list = root.join("crates.txt");
     println!("cargo::rerun-if-changed={}", list.display());
     let text = fs::read_to_string(&list).expect("crates.txt is in the repository's root");
+    // what the crate of that name uses; none where the name is that of a library of the kit, which has no line
+    let used = |name: &str| {
+        text.lines()
+            .filter_map(|line| line.split_once(':'))
+            .find_map(|(head, used)| (head.split_whitespace().next() == Some(name)).then_some(used))
+    };
+    assert!(used(LIBRARY).is_some(), "crates.txt has a line for {LIBRARY}");
     let mut names = vec![LIBRARY];
     let mut done = 0;
     while done < names.len() {
-        let used = text
-            .lines()
-            .filter_map(|line| line.split_once(':'))
-            .find_map(|(head, used)| (head.split_whitespace().next() == Some(names[done])).then_some(used))
-            .expect("crates.txt has a line for each crate");
-        for name in used.split_whitespace() {
-            if !names.contains(&name) {
+        for name in used(names[done]).into_iter().flat_map(str::split_whitespace) {
+            if used(name).is_some() && !names.contains(&name) {
                 names.push(name);
             }
         }

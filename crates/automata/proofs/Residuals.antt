@@ -3,7 +3,10 @@ use Rattle.std.proofs.Common.{◌≡◌, ℕ, zero, suc, ◌<◌, Bool, true, fa
 use mathlib.Core.Bool.{false≢true}
 use Rattle.words.specs.Words.{Sets, sets}
 use Rattle.claims.specs.Claims.{Holds, Only, before, next, single, within}
-use Rattle.automata.specs.Machines.{Kind, Leaf, Residual, after, alone, before_kind, behind, claim, clear, dead, ends, far, gone, here, inside, machine, next_kind, number, one, residual, residuals, single_kind, within_kind}
+use Rattle.claims.specs.Atoms.{atom}
+use Rattle.claims.specs.declared.atom.Atom.{Atom}
+use Rattle.claims.specs.declared.atom.Atom.TheVariants.{Within, Single, Next as AtomNext, Before}
+use Rattle.automata.specs.Machines.{Leaf, Residual, after, alone, behind, clear, dead, ends, far, gone, here, inside, machine, number, one, residual, residuals}
 use Rattle.automata.proofs.Decisions.{off}
 use Rattle.automata.proofs.Machines.{meant, shift}
 
@@ -155,8 +158,8 @@ residuals_leaf x y s h = meant (Left (residual s) x y) (λ q. Left (residual q) 
 }
 
 -- each kind's machine says its claim
-pub leaf : (a : Kind) → Leaf (Holds (claim a)) (machine a)
-leaf (within_kind x y) = residuals_leaf x y 0 (omega arith)
-leaf (single_kind x) = residuals_leaf x x 1 (omega arith)
-leaf (next_kind x y) = residuals_leaf x y 2 (omega arith)
-leaf (before_kind x y) = residuals_leaf x y 3 (omega arith)
+pub leaf : (a : Atom) → Leaf (Holds (atom a)) (machine a)
+leaf (Within x y) = residuals_leaf x y 0 (omega arith)
+leaf (Single x) = residuals_leaf x x 1 (omega arith)
+leaf (AtomNext x y) = residuals_leaf x y 2 (omega arith)
+leaf (Before x y) = residuals_leaf x y 3 (omega arith)

@@ -5,7 +5,10 @@ use Rattle.claims.specs.Claims.{C, Holds, Of, and1, before, next, not1, single, 
 use Rattle.claims.specs.Laws.{Told}
 use Rattle.claims.specs.Rows.{ok}
 use Rattle.claims.proofs.FrontLaws.{both_passed}
-use Rattle.automata.specs.Machines.{Kind, before_kind, claim, machine, next_kind, single_kind, within_kind}
+use Rattle.claims.specs.Atoms.{atom}
+use Rattle.claims.specs.declared.atom.Atom.{Atom}
+use Rattle.claims.specs.declared.atom.Atom.TheVariants.{Within, Single, Next, Before}
+use Rattle.automata.specs.Machines.{machine}
 use Rattle.automata.proofs.Agreement.{SomeBut}
 use Rattle.automata.proofs.Beyond.{Beyond, some_beyond}
 use Rattle.automata.proofs.Machines.{leaf_regular}
@@ -32,14 +35,14 @@ bound k (not1 c) t = bound k c t
 bound k (and1 c d) t = let (a, b) = both_passed (ok k c) (ok k d) t in (bound k c a, bound k d b)
 bound k (some x c) t = let (a, b) = both_passed (ltb x k) (ok k c) t in (ltb→lt x k a, bound k c b)
 
-regular_leaf : (k : ℕ) (a : Kind) → Regular k (Of (claim a))
-regular_leaf k a = leaf_regular k (Holds (claim a)) (machine a) (leaf a)
+regular_leaf : (k : ℕ) (a : Atom) → Regular k (Of (atom a))
+regular_leaf k a = leaf_regular k (Holds (atom a)) (machine a) (leaf a)
 
 pub regular : (k : ℕ) (c : C) → Bound k c → Regular k (Of c)
-regular k (within x y) t = regular_leaf k (within_kind x y)
-regular k (single x) t = regular_leaf k (single_kind x)
-regular k (next x y) t = regular_leaf k (next_kind x y)
-regular k (before x y) t = regular_leaf k (before_kind x y)
+regular k (within x y) t = regular_leaf k (Within x y)
+regular k (single x) t = regular_leaf k (Single x)
+regular k (next x y) t = regular_leaf k (Next x y)
+regular k (before x y) t = regular_leaf k (Before x y)
 regular k (not1 c) t = regular_not k (Of c) (regular k c t)
 regular k (and1 c d) t = regular_and k (Of c) (Of d) (regular k c t.0) (regular k d t.1)
 regular k (some x c) t =

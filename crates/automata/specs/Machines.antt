@@ -1,7 +1,8 @@
 -- Claims without parts, behind one form: finitely many states, a start, a step by the bits of a column, the states that accept at the end.
 use Rattle.std.specs.Prelude.{◌≡◌, ℕ, zero, suc, ◌<◌, Bool, true, false, ◌↔◌}
 use Rattle.words.specs.Words.{Sets, Word, bit, sets}
-use Rattle.claims.specs.Claims.{C, within, single, next, before}
+use Rattle.claims.specs.declared.atom.Atom.{Atom}
+use Rattle.claims.specs.declared.atom.Atom.TheVariants.{Within, Single, Next, Before}
 use Rattle.automata.specs.Tables.{run}
 
 pub record Machine : Type 0 where
@@ -100,21 +101,9 @@ residual (suc (suc (suc (suc (suc (suc (suc (suc n)))))))) = dead
 abbrev pub residuals : ℕ → ℕ → ℕ → Machine
 residuals x y s = record { size = 9; start = s; step = λ q b. number (after (residual q) (b x) (b y)); ends = λ q. ends (residual q) }
 
--- the kinds of claims without parts, the claim that each is, and its machine
-pub data Kind : Type 0 where
-  within_kind : ℕ → ℕ → Kind
-  single_kind : ℕ → Kind
-  next_kind : ℕ → ℕ → Kind
-  before_kind : ℕ → ℕ → Kind
-
-abbrev pub claim : Kind → C
-claim (within_kind x y) = within x y
-claim (single_kind x) = single x
-claim (next_kind x y) = next x y
-claim (before_kind x y) = before x y
-
-abbrev pub machine : Kind → Machine
-machine (within_kind x y) = residuals x y 0
-machine (single_kind x) = residuals x x 1
-machine (next_kind x y) = residuals x y 2
-machine (before_kind x y) = residuals x y 3
+-- the machine of a claim without parts
+abbrev pub machine : Atom → Machine
+machine (Within x y) = residuals x y 0
+machine (Single x) = residuals x x 1
+machine (Next x y) = residuals x y 2
+machine (Before x y) = residuals x y 3

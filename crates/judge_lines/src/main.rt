@@ -5,7 +5,7 @@
 
 use lengths::judge::judge;
 use lengths::judged::Judged;
-use lines::line::{Fault, read_bytes, read_fields, read_number};
+use line_format::line::{Fault, read_bytes, read_fields, read_number};
 use room::floor::floor;
 use std::alloc::Global;
 use std::io;

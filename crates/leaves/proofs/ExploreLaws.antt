@@ -2,7 +2,10 @@
 use Rattle.std.proofs.Common.{◌≡◌, ℕ, suc, ◌+◌, ◌*◌, ◌^◌, ◌<◌, ◌≤◌, List, length, get_or, set, sym, refl, ◌∙◌, subst, inl, inr, add-one, arith}
 use Rattle.std.proofs.lemmas.List.{get_or-set_same, get_or-set_other}
 use Rattle.claims.specs.Claims.{Holds}
-use Rattle.automata.specs.Machines.{Kind, within_kind, single_kind, next_kind, before_kind, claim, machine, moves}
+use Rattle.claims.specs.Atoms.{atom}
+use Rattle.claims.specs.declared.atom.Atom.{Atom}
+use Rattle.claims.specs.declared.atom.Atom.TheVariants.{Within, Single, Next, Before}
+use Rattle.automata.specs.Machines.{machine, moves}
 use Rattle.automata.specs.Search.{Explored}
 use Rattle.automata.proofs.Counting.{pigeon_below}
 use Rattle.automata.proofs.Machines.{leaf_below}
@@ -13,19 +16,19 @@ use Rattle.tables.proofs.SearchLaws.{searching_start, searching_row, searching_o
 use Rattle.leaves.specs.Explore.{Entered}
 
 -- every kind's machine has at most nine states
-pub states_few : (a : Kind) → (machine a).size ≤ 9
-states_few (within_kind x y) = omega arith
-states_few (single_kind x) = omega arith
-states_few (next_kind x y) = omega arith
-states_few (before_kind x y) = omega arith
+pub states_few : (a : Atom) → (machine a).size ≤ 9
+states_few (Within x y) = omega arith
+states_few (Single x) = omega arith
+states_few (Next x y) = omega arith
+states_few (Before x y) = omega arith
 
 -- the states found by row i, column a
-abbrev pub Far : Kind → ℕ → ℕ → List ℕ → List ℕ → ℕ → ℕ → Type 0
+abbrev pub Far : Atom → ℕ → ℕ → List ℕ → List ℕ → ℕ → ℕ → Type 0
 Far c k m at rows i a = Searching k (moves (machine c)) (machine c).start m (λ j. get_or at j 0) rows (2 ^ k) i a
 
-module _ (c : Kind) (k m : ℕ) (at rows : List ℕ) (i a : ℕ) (f : Far c k m at rows i a) where
+module _ (c : Atom) (k m : ℕ) (at rows : List ℕ) (i a : ℕ) (f : Far c k m at rows i a) where
   pub far_states : (j : ℕ) → j < m → get_or at j 0 < (machine c).size
-  far_states j h = rw (sym (f.so_far.comes j h)) (leaf_below k (Holds (claim c)) (machine c) (leaf c) (f.ws j))
+  far_states j h = rw (sym (f.so_far.comes j h)) (leaf_below k (Holds (atom c)) (machine c) (leaf c) (f.ws j))
 
   pub far_few : m ≤ 9
   far_few =
@@ -46,11 +49,11 @@ module _ (c : Kind) (k m : ℕ) (at rows : List ℕ) (i a : ℕ) (f : Far c k m 
             (λ j h x. g j h (x ∙ sym et)) (get_or-set_same at m t 0 hm ∙ et) (λ j h. get_or-set_other at m j t 0 (omega arith)),
       )
 
-pub far_start : (c : Kind) (k s : ℕ) (at rows : List ℕ) → 0 < length at → s ≡ (machine c).start → Far c k 1 (set at 0 s) rows 0 0
+pub far_start : (c : Atom) (k s : ℕ) (at rows : List ℕ) → 0 < length at → s ≡ (machine c).start → Far c k 1 (set at 0 s) rows 0 0
 far_start c k s at rows h e = searching_start k (moves (machine c)) (machine c).start (2 ^ k) refl (λ j. get_or (set at 0 s) j 0) rows (get_or-set_same at 0 s 0 h ∙ e)
 
-pub far_row : (c : Kind) (k m : ℕ) (at rows : List ℕ) (i a : ℕ) → a ≡ 2 ^ k → Far c k m at rows i a → Far c k m at rows (i + 1) 0
+pub far_row : (c : Atom) (k m : ℕ) (at rows : List ℕ) (i a : ℕ) → a ≡ 2 ^ k → Far c k m at rows i a → Far c k m at rows (i + 1) 0
 far_row c k m at rows i a e f = rw add-one (searching_row k (moves (machine c)) (machine c).start (2 ^ k) refl m (λ j. get_or at j 0) rows i (subst (Far c k m at rows i) e f))
 
-pub far_end : (c : Kind) (k m : ℕ) (at rows : List ℕ) (i : ℕ) → i ≡ m → Far c k m at rows i 0 → Explored k (moves (machine c)) (machine c).start m (λ j. get_or at j 0) (entry rows (2 ^ k))
+pub far_end : (c : Atom) (k m : ℕ) (at rows : List ℕ) (i : ℕ) → i ≡ m → Far c k m at rows i 0 → Explored k (moves (machine c)) (machine c).start m (λ j. get_or at j 0) (entry rows (2 ^ k))
 far_end c k m at rows i e f = searching_end k (moves (machine c)) (machine c).start (2 ^ k) refl m (λ j. get_or at j 0) rows (subst (λ z. Far c k m at rows z 0) e f)

@@ -5,10 +5,11 @@ ghost use Rattle.automata.specs.Machines.{machine, moves};
 ghost use Rattle.automata.specs.Search.{Explored};
 ghost use Rattle.tables.specs.Cells.{entry};
 ghost use Rattle.tables.specs.Search.{Searching};
-ghost use Rattle.leaves.specs.Kind.{said, Named};
+ghost use Rattle.claims.specs.Atoms.{atom as claim, Named};
 ghost use Rattle.leaves.specs.Explore.{Entered};
 
-use super::kind::{Kind, start, step};
+use super::machine::{start, step};
+use claims::atom::Atom;
 use tables::cells::{Class, put};
 
 // The number of state t among the first `count` of `at`, or that it is not there.
@@ -46,34 +47,34 @@ fn enter(
 }
 
 // One row: all columns of the state with number i.
-fn explore_row(kind: Kind, k: u32, at: &mut [u32], rows: &mut [u32], count: usize, i: u32) -> usize
-    requires named { Named k kind × (k ≤ 12) }
+fn explore_row(atom: Atom, k: u32, at: &mut [u32], rows: &mut [u32], count: usize, i: u32) -> usize
+    requires named { Named k atom × (k ≤ 12) }
     requires room { (10 ≤ length at.old) × (9 * 2 ^ k ≤ length rows.old) }
-    requires here { (i < count) × Searching k (moves (machine (said kind))) (machine (said kind)).start count (λ j. slice_index at.old j) rows.old (2 ^ k) i 0 }
-    ensures { (count ≤ result) × Searching k (moves (machine (said kind))) (machine (said kind)).start result (λ j. slice_index at.new j) rows.new (2 ^ k) (i + 1) 0 }
+    requires here { (i < count) × Searching k (moves (machine atom)) (machine atom).start count (λ j. slice_index at.old j) rows.old (2 ^ k) i 0 }
+    ensures { (count ≤ result) × Searching k (moves (machine atom)) (machine atom).start result (λ j. slice_index at.new j) rows.new (2 ^ k) (i + 1) 0 }
 {
     let width = 1u32 << k;
     let mut found = count;
     for a in 0..width {
-        let t = step(kind, at[i as usize], a);
+        let t = step(atom, at[i as usize], a);
         found = enter(at, rows, width as usize, found, i, a, t);
     }
     found
 }
 
 // The table of the machine's states that are reached: the state with number j is at[j].
-pub fn explore(kind: Kind, k: u32, at: &mut [u32], rows: &mut [u32]) -> usize
-    requires named { Named k kind × (k ≤ 12) }
+pub fn explore(atom: Atom, k: u32, at: &mut [u32], rows: &mut [u32]) -> usize
+    requires named { Named k atom × (k ≤ 12) }
     requires room { (10 ≤ length at.old) × (9 * 2 ^ k ≤ length rows.old) }
     ensures few { result ≤ 9 }
-    ensures states { (j : ℕ) → j < result → slice_index at.new j < (machine (said kind)).size }
-    ensures explored { Explored k (moves (machine (said kind))) (machine (said kind)).start result (λ j. slice_index at.new j) (entry rows.new (2 ^ k)) }
+    ensures states { (j : ℕ) → j < result → slice_index at.new j < (machine atom).size }
+    ensures explored { Explored k (moves (machine atom)) (machine atom).start result (λ j. slice_index at.new j) (entry rows.new (2 ^ k)) }
 {
-    at[0] = start(kind);
+    at[0] = start(atom);
     let mut count = 1;
     let mut i = 0;
     while i < count {
-        count = explore_row(kind, k, at, rows, count, i as u32);
+        count = explore_row(atom, k, at, rows, count, i as u32);
         i += 1;
     }
     count

@@ -2,32 +2,33 @@
 // Two sets that are one make states that are alike, as for `next x x`, so whether the claim fits is known only once they are joined.
 ghost use Rattle.std.specs.Prelude.{◌≡◌, ℕ, ◌*◌, ◌^◌, ◌<◌, ◌≤◌, length, MatchOption, slice_index};
 ghost use Rattle.claims.specs.Sizes.{Fits};
-ghost use Rattle.automata.specs.Machines.{claim, machine};
+ghost use Rattle.automata.specs.Machines.{machine};
 ghost use Rattle.automata.specs.Worked.{Worked};
 ghost use Rattle.tables.specs.Cells.{entry, accepts};
-ghost use Rattle.leaves.specs.Kind.{said, Named};
+ghost use Rattle.claims.specs.Atoms.{atom as claim, Named};
 
 use super::explore::explore;
-use super::kind::{Kind, ends};
+use super::machine::ends;
+use claims::atom::Atom;
 use joining::join::join;
 use joining::quotient::quotient;
 use tables::cells::{Table, WordTable};
 
 // Which of the states found accept.
-fn accept_states(kind: Kind, at: &[u32], count: usize, accept: &mut [u32])
+fn accept_states(atom: Atom, at: &[u32], count: usize, accept: &mut [u32])
     requires room { (count ≤ length at.now) × (count ≤ length accept.old) }
-    requires states { (j : ℕ) → j < count → slice_index at.now j < (machine (said kind)).size }
-    ensures { (j : ℕ) → j < count → accepts accept.new j ≡ (machine (said kind)).ends (slice_index at.now j) }
+    requires states { (j : ℕ) → j < count → slice_index at.now j < (machine atom).size }
+    ensures { (j : ℕ) → j < count → accepts accept.new j ≡ (machine atom).ends (slice_index at.now j) }
 {
     for j in 0..count {
-        accept[j] = if ends(kind, at[j]) { 1 } else { 0 };
+        accept[j] = if ends(atom, at[j]) { 1 } else { 0 };
     }
 }
 
 // The table of the claim, with at most `most` classes, or none where it has more. Scratch: nine rows of states in `states`, nine words and one in `at`,
 // nine in each of the others, and 81 in `index`.
 pub fn leaf(
-    kind: Kind,
+    atom: Atom,
     k: u32,
     most: usize,
     rows: &mut [u32],
@@ -42,13 +43,13 @@ pub fn leaf(
     rights: &mut [u32],
     index: &mut [u32],
 ) -> Option<usize>
-    requires named { Named k kind × (k ≤ 12) × (most < 2 ^ 32) }
+    requires named { Named k atom × (k ≤ 12) × (most < 2 ^ 32) }
     requires room { (most * 2 ^ k ≤ length rows.old) × (most ≤ length accept.old) × (9 * 2 ^ k ≤ length states.old) × (10 ≤ length at.old) × (81 ≤ length index.old) }
     requires scratch { (9 ≤ length accepting.old) × (9 ≤ length cls.old) × (9 ≤ length firsts.old) × (9 ≤ length cur.old) × (9 ≤ length lefts.old) × (9 ≤ length rights.old) }
-    ensures { MatchOption result (Fits k most (claim (said kind)) → ⊥) (λ m. (m ≤ most) × Worked k most (claim (said kind)) m (entry rows.new (2 ^ k)) (accepts accept.new)) }
+    ensures { MatchOption result (Fits k most (claim atom) → ⊥) (λ m. (m ≤ most) × Worked k most (claim atom) m (entry rows.new (2 ^ k)) (accepts accept.new)) }
 {
-    let count = explore(kind, k, at, states);
-    accept_states(kind, at, count, accepting);
+    let count = explore(atom, k, at, states);
+    accept_states(atom, at, count, accepting);
     let t = WordTable {
         table: Table {
             rows: states,

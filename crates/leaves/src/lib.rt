@@ -2,5 +2,5 @@
 #![tactic(auto)]
 
 pub mod explore;
-pub mod kind;
 pub mod leaf;
+pub mod machine;

@@ -1,6 +1,6 @@
--- Rust's types of rules, what they are in the theory, and what a claim's bytes are.
-pub mod Claim
-pub mod Known
+-- Rust's types of rules, what they are in the theory, what is asked of its rows, and the claims that tell it.
+pub mod Changed
 pub mod Local
 pub mod Numbers
-pub mod Rule
+pub mod Sound
+pub mod Property

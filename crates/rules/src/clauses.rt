@@ -3,22 +3,24 @@ ghost use Rattle.std.specs.Prelude.{◌≡◌, IfOk};
 ghost use Rattle.rows.specs.RuleLocal.{same_side, on, fits_nothing, literal_local, literals_local, left_local, right_local, fits_local, allowed_local};
 ghost use Rattle.rules.specs.Local.{local_of};
 ghost use Rattle.rules.specs.Numbers.{number_of};
-ghost use Rattle.rules.specs.Rule.{side_of, literal_of, literals_of, patterns_of};
 
 use crate::local::{Local, also, before, behind, both, either, negated, non};
 use crate::numbers::Numbers;
-use crate::rule::{Literal, Pattern, Side};
+use rows::line::Pattern;
+use rows::rule::{Literal, Side};
 use std::alloc::{AllocError, Global};
 
+/// The literal is as it says, where what is asked of is at the place itself.
 pub fn of_literal(alloc: Global, x: &Numbers, p: Literal) -> Result<Local, AllocError>
-    ensures { IfOk result (λ f. local_of f ≡ literal_local x.now.bits (number_of x.now) (literal_of p)) }
+    ensures { IfOk result (λ f. local_of f ≡ literal_local x.now.bits (number_of x.now) p) }
 {
     let sees = Local::Sees(x.of_asked(p.asked));
     if p.set { Ok(sees) } else { non(alloc, sees) }
 }
 
+/// All of the literals are as they say, where what they ask of is at the place itself.
 pub fn of_literals(alloc: Global, x: &Numbers, ps: &[Literal]) -> Result<Local, AllocError>
-    ensures { IfOk result (λ f. local_of f ≡ literals_local x.now.bits (number_of x.now) (literals_of ps.now)) }
+    ensures { IfOk result (λ f. local_of f ≡ literals_local x.now.bits (number_of x.now) ps.now) }
 {
     match ps {
         [] => Ok(Local::All),
@@ -32,7 +34,7 @@ pub fn of_literals(alloc: Global, x: &Numbers, ps: &[Literal]) -> Result<Local, 
 }
 
 fn is_same(a: Side, b: Side) -> bool
-    ensures { result ≡ same_side (side_of a) (side_of b) }
+    ensures { result ≡ same_side a b }
 {
     match (a, b) {
         (Side::Left, Side::Left) | (Side::Own, Side::Own) | (Side::Right, Side::Right) => true,
@@ -40,10 +42,9 @@ fn is_same(a: Side, b: Side) -> bool
     }
 }
 
-// The pattern's part on one side.
-#[tactic(auto, using(crate::proofs::RuleLaws::literals_of_append))]
+/// The literals of the pattern that ask of one side, in their order.
 pub fn on_side(alloc: Global, side: Side, ps: &[Literal]) -> Result<Vec<Literal>, AllocError>
-    ensures { IfOk result (λ found. literals_of found.items ≡ on (side_of side) (literals_of ps.now)) }
+    ensures { IfOk result (λ found. found.items ≡ on side ps.now) }
 {
     let mut found = Vec::new(alloc);
     for p in ps {
@@ -54,9 +55,9 @@ pub fn on_side(alloc: Global, side: Side, ps: &[Literal]) -> Result<Vec<Literal>
     Ok(found)
 }
 
-// Whether nothing at all fits too, since nothing is asked to be so.
+/// Whether nothing at all fits too, since nothing is asked to be so.
 pub fn nothing_fits(ps: &[Literal]) -> bool
-    ensures { result ≡ fits_nothing (literals_of ps.now) }
+    ensures { result ≡ fits_nothing ps.now }
 {
     for p in ps {
         if p.set {
@@ -66,9 +67,9 @@ pub fn nothing_fits(ps: &[Literal]) -> bool
     true
 }
 
-// Of the left neighbour: there is one that fits; or, where nothing fits too, there is none that does not.
+/// Of the left neighbour: there is one that fits; or, where nothing fits too, there is none that does not.
 pub fn of_left(alloc: Global, x: &Numbers, ps: &[Literal]) -> Result<Local, AllocError>
-    ensures { IfOk result (λ f. local_of f ≡ left_local x.now.bits (number_of x.now) (literals_of ps.now)) }
+    ensures { IfOk result (λ f. local_of f ≡ left_local x.now.bits (number_of x.now) ps.now) }
 {
     if ps.is_empty() {
         return Ok(Local::All);
@@ -82,8 +83,9 @@ pub fn of_left(alloc: Global, x: &Numbers, ps: &[Literal]) -> Result<Local, Allo
     }
 }
 
+/// Of the right neighbour: behind each place there is one, though perhaps none of the row.
 pub fn of_right(alloc: Global, x: &Numbers, ps: &[Literal]) -> Result<Local, AllocError>
-    ensures { IfOk result (λ f. local_of f ≡ right_local x.now.bits (number_of x.now) (literals_of ps.now)) }
+    ensures { IfOk result (λ f. local_of f ≡ right_local x.now.bits (number_of x.now) ps.now) }
 {
     if ps.is_empty() {
         return Ok(Local::All);
@@ -91,8 +93,9 @@ pub fn of_right(alloc: Global, x: &Numbers, ps: &[Literal]) -> Result<Local, All
     behind(alloc, of_literals(alloc, x, ps)?)
 }
 
+/// The module at the place and its neighbours fit the pattern.
 pub fn of_pattern(alloc: Global, x: &Numbers, ps: &[Literal]) -> Result<Local, AllocError>
-    ensures { IfOk result (λ f. local_of f ≡ fits_local x.now.bits (number_of x.now) (literals_of ps.now)) }
+    ensures { IfOk result (λ f. local_of f ≡ fits_local x.now.bits (number_of x.now) ps.now) }
 {
     let own = of_literals(alloc, x, &on_side(alloc, Side::Own, ps)?)?;
     let left = of_left(alloc, x, &on_side(alloc, Side::Left, ps)?)?;
@@ -100,16 +103,17 @@ pub fn of_pattern(alloc: Global, x: &Numbers, ps: &[Literal]) -> Result<Local, A
     also(alloc, own, also(alloc, left, right)?)
 }
 
-// One of the patterns fits.
+/// One of the patterns fits.
 pub fn of_patterns(alloc: Global, x: &Numbers, patterns: &[Pattern]) -> Result<Local, AllocError>
-    ensures { IfOk result (λ f. local_of f ≡ allowed_local x.now.bits (number_of x.now) (patterns_of patterns.now)) }
+    ensures { IfOk result (λ f. local_of f ≡ allowed_local x.now.bits (number_of x.now) patterns.now) }
 {
-    let [p, rest @ ..] = patterns else {
-        return non(alloc, Local::All);
-    };
-    let first = of_pattern(alloc, x, &p.literals)?;
-    if rest.is_empty() {
-        return Ok(first);
+    match patterns {
+        [] => non(alloc, Local::All),
+        [p] => of_pattern(alloc, x, p.literals()),
+        [p, rest @ ..] => either(
+            alloc,
+            of_pattern(alloc, x, p.literals())?,
+            of_patterns(alloc, x, rest)?,
+        ),
     }
-    either(alloc, first, of_patterns(alloc, x, rest)?)
 }

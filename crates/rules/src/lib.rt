@@ -1,12 +1,17 @@
-// A rule of modules as Rust types, one step of a row by it, and the bytes of the claims that it makes.
+// A rule of modules as Rust types, what is asked of its rows, and the claims that it makes.
 #![tactic(auto)]
 
+pub mod changed;
 pub mod claim;
 pub mod clauses;
+pub mod formula;
 pub mod known;
 pub mod local;
 pub mod numbers;
-pub mod parts;
+pub mod places;
+pub mod property;
+pub mod question;
+pub mod row;
 pub mod rule;
+pub mod step;
 pub mod table;
-pub mod writer;

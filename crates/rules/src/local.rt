@@ -1,46 +1,51 @@
 // What is so at a place, as a tree, and the lowest number that such a tree does not name.
-ghost use Rattle.std.specs.Prelude.{◌≡◌, ◌≤◌, IfOk, MatchOption};
+ghost use Rattle.std.specs.Prelude.{◌≡◌, ◌≤◌, IfOk, false};
 ghost use Rattle.rows.specs.Local.{non, both, before, behind, neg, names as is_named, fresh as fresh_number};
 ghost use Rattle.rows.specs.RuleLocal.{either, implies, also};
 ghost use Rattle.rules.specs.Local.{local_of};
 
 use std::alloc::{AllocError, Global};
 
+/// What is so at a place: everything; it lies in a set; the opposite; both; there is a place before it, and there; at the place behind it. The sets that a tree names have numbers of two bytes.
 #[derive(Debug, Drop)]
 pub enum Local {
     All,
-    Sees(usize),
+    Sees(u16),
     Non(Box<Local>),
     Both(Box<Local>, Box<Local>),
     Before(Box<Local>),
     Behind(Box<Local>),
 }
 
+/// The opposite.
 pub fn non(alloc: Global, f: Local) -> Result<Local, AllocError>
     ensures { IfOk result (λ r. local_of r ≡ non (local_of f)) }
 {
     Ok(Local::Non(Box::new(alloc, f)?))
 }
 
+/// Both are so at the place.
 pub fn both(alloc: Global, f: Local, g: Local) -> Result<Local, AllocError>
     ensures { IfOk result (λ r. local_of r ≡ both (local_of f) (local_of g)) }
 {
     Ok(Local::Both(Box::new(alloc, f)?, Box::new(alloc, g)?))
 }
 
+/// There is a place just before this one, and there it is so.
 pub fn before(alloc: Global, f: Local) -> Result<Local, AllocError>
     ensures { IfOk result (λ r. local_of r ≡ before (local_of f)) }
 {
     Ok(Local::Before(Box::new(alloc, f)?))
 }
 
+/// At the place just behind this one it is so.
 pub fn behind(alloc: Global, f: Local) -> Result<Local, AllocError>
     ensures { IfOk result (λ r. local_of r ≡ behind (local_of f)) }
 {
     Ok(Local::Behind(Box::new(alloc, f)?))
 }
 
-// The opposite, without a double not.
+/// The opposite, without a double not.
 pub fn negated(alloc: Global, f: Local) -> Result<Local, AllocError>
     ensures { IfOk result (λ r. local_of r ≡ neg (local_of f)) }
 {
@@ -50,6 +55,7 @@ pub fn negated(alloc: Global, f: Local) -> Result<Local, AllocError>
     }
 }
 
+/// One of the two is so.
 pub fn either(alloc: Global, f: Local, g: Local) -> Result<Local, AllocError>
     ensures { IfOk result (λ r. local_of r ≡ either (local_of f) (local_of g)) }
 {
@@ -57,6 +63,7 @@ pub fn either(alloc: Global, f: Local, g: Local) -> Result<Local, AllocError>
     non(alloc, neither)
 }
 
+/// Where the first is so, the second is.
 pub fn implies(alloc: Global, f: Local, g: Local) -> Result<Local, AllocError>
     ensures { IfOk result (λ r. local_of r ≡ implies (local_of f) (local_of g)) }
 {
@@ -64,7 +71,7 @@ pub fn implies(alloc: Global, f: Local, g: Local) -> Result<Local, AllocError>
     non(alloc, fails)
 }
 
-// Both, where neither says everything.
+/// Both, where neither says everything.
 pub fn also(alloc: Global, f: Local, g: Local) -> Result<Local, AllocError>
     ensures { IfOk result (λ r. local_of r ≡ also (local_of f) (local_of g)) }
 {
@@ -75,29 +82,30 @@ pub fn also(alloc: Global, f: Local, g: Local) -> Result<Local, AllocError>
     }
 }
 
-// Whether the tree names set y.
+/// Whether the tree names set y. A number of more than two bytes it does not name.
 pub fn names(f: &Local, y: usize) -> bool
-    ensures { result ≡ is_named (local_of f.now) y }
+    ensures named { result ≡ is_named (local_of f.now) y }
+    ensures beyond { 65536 ≤ y → result ≡ false }
 {
     match f {
         Local::All => false,
-        Local::Sees(x) => y == *x,
+        Local::Sees(x) => y == *x as usize,
         Local::Non(g) | Local::Before(g) | Local::Behind(g) => names(g, y),
         Local::Both(g, h) => names(g, y) || names(h, y),
     }
 }
 
-// No claim has so many sets.
-const MOST_NUMBERS: usize = 256;
+// One of these is neither p nor named.
+const MOST_NUMBERS: usize = 65538;
 
-// The lowest number that is not p and that the tree does not name, unless all numbers of one byte are taken.
-pub fn fresh(p: usize, f: &Local) -> Option<usize>
-    ensures { MatchOption result (256 ≤ fresh_number p (local_of f.now)) (λ y. y ≡ fresh_number p (local_of f.now)) }
+/// The lowest number that is not p and that the tree does not name. There always is one.
+pub fn fresh(p: usize, f: &Local) -> usize
+    ensures { result ≡ fresh_number p (local_of f.now) }
 {
     for y in 0..MOST_NUMBERS {
         if y != p && !names(f, y) {
-            return Some(y);
+            return y;
         }
     }
-    None
+    0
 }

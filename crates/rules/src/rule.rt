@@ -1,52 +1,23 @@
 // A rule: which rows are allowed, and the table of what each module does.
+ghost use Rattle.std.specs.Prelude.{◌≤◌, IsTrue};
+ghost use Rattle.rows.specs.RowClaims.{below};
+ghost use Rattle.rows.specs.Faults.{patterns_ok, lines_ok, limits_ok};
 
-#[derive(Clone, Copy, Debug, PartialEq, Eq)]
-pub enum Side {
-    Left,
-    Own,
-    Right,
-}
+use formulas::formula::Formula;
+use rows::line::{Line, Pattern};
 
-// What is asked of a module's place or of a neighbour's: stands a module there, and is its bit set.
-#[derive(Clone, Copy, Debug, PartialEq, Eq)]
-pub enum Asked {
-    There,
-    Bit(u8),
-}
-
-// What is asked is so, or is not so.
-#[derive(Clone, Copy, Debug, PartialEq, Eq)]
-pub struct Literal {
-    pub side: Side,
-    pub asked: Asked,
-    pub set: bool,
-}
-
-// A bit after the step: set or not, or as some bit was.
-#[derive(Clone, Copy, Debug, PartialEq, Eq)]
-pub enum NewBit {
-    Fixed(bool),
-    AsWas(Side, u8),
-}
-
-// All of a pattern's literals have to be as they say.
-#[derive(Debug, Drop)]
-pub struct Pattern {
-    pub literals: Vec<Literal>,
-}
-
-// When the line counts, the bits of the module after the step (bits without an entry stay), and whether it moves.
-#[derive(Debug, Drop)]
-pub struct Line {
-    pub when: Pattern,
-    pub bits: Vec<NewBit>,
-    pub moves: bool,
-}
-
-// A module has so many bits. A row is allowed if each module is as one of the patterns; of the table the first line that fits counts.
+/// A rule of modules of `bits` bits: one bit, and at most as many as leave one of the 12 sets of a claim for the row itself.
+/// A row is allowed if each module is as one of the patterns in `allowed`, and each of the `limits` holds of the row; of the `table` the first line that fits counts.
+/// Patterns and table name bits that a module has. A limit names sets, each a number: below `bits` the places whose module has that bit, and `bits` itself the row's places.
 #[derive(Debug, Drop)]
 pub struct Rule {
     pub bits: u8,
     pub allowed: Vec<Pattern>,
+    pub limits: Vec<Formula>,
     pub table: Vec<Line>,
+    pub ghost one: { 1 ≤ bits },
+    pub ghost few: { bits ≤ 11 },
+    pub ghost patterns: { IsTrue (patterns_ok (below bits) allowed.items) },
+    pub ghost names: { IsTrue (limits_ok bits limits.items) },
+    pub ghost lines: { IsTrue (lines_ok (below bits) table.items) },
 }

@@ -1,42 +1,56 @@
 // What the table says at a module's place.
 ghost use Rattle.std.specs.Prelude.{◌≡◌, IfOk};
 ghost use Rattle.rows.specs.Rules.{new_at};
-ghost use Rattle.rows.specs.RuleLocal.{waits_local, at_side, new_local, news_local, after_local};
+ghost use Rattle.rows.specs.RuleLocal.{waits_line, waits_local, at_side, new_local, news_local, after_line, after_local};
 ghost use Rattle.rules.specs.Local.{local_of};
 ghost use Rattle.rules.specs.Numbers.{number_of};
-ghost use Rattle.rules.specs.Rule.{side_of, new_of, news_of, lines_of};
 
 use crate::clauses::of_pattern;
 use crate::local::{Local, before, behind, both, either, implies, negated, non};
 use crate::numbers::Numbers;
-use crate::rule::{Line, NewBit, Side};
+use rows::line::Line;
+use rows::rule::{Literal, NewBit, Side};
 use std::alloc::{AllocError, Global};
 
-// The module waits: the first line that fits says so, or no line fits.
-pub fn of_waiting(alloc: Global, x: &Numbers, table: &[Line]) -> Result<Local, AllocError>
-    ensures { IfOk result (λ f. local_of f ≡ waits_local x.now.bits (number_of x.now) (lines_of table.now)) }
+// The module waits by a line for which it moves or waits, or by the others.
+fn waits_line(
+    alloc: Global,
+    x: &Numbers,
+    when: &[Literal],
+    moves: bool,
+    others: Local,
+) -> Result<Local, AllocError>
+    ensures { IfOk result (λ f. local_of f ≡ waits_line x.now.bits (number_of x.now) when.now moves (local_of others)) }
 {
-    let [line, rest @ ..] = table else {
-        return Ok(Local::All);
-    };
-    if line.when.literals.is_empty() {
-        return if line.moves {
+    if when.is_empty() {
+        return if moves {
             non(alloc, Local::All)
         } else {
             Ok(Local::All)
         };
     }
-    let fits = of_pattern(alloc, x, &line.when.literals)?;
-    let others = of_waiting(alloc, x, rest)?;
-    if line.moves {
+    let fits = of_pattern(alloc, x, when)?;
+    if moves {
         both(alloc, negated(alloc, fits)?, others)
     } else {
         either(alloc, fits, others)
     }
 }
 
-pub fn of_side(alloc: Global, side: Side, y: usize) -> Result<Local, AllocError>
-    ensures { IfOk result (λ f. local_of f ≡ at_side (side_of side) y) }
+/// The module waits: the first line that fits says so, or no line fits.
+pub fn of_waiting(alloc: Global, x: &Numbers, table: &[Line]) -> Result<Local, AllocError>
+    ensures { IfOk result (λ f. local_of f ≡ waits_local x.now.bits (number_of x.now) table.now) }
+{
+    let [line, rest @ ..] = table else {
+        return Ok(Local::All);
+    };
+    let others = of_waiting(alloc, x, rest)?;
+    waits_line(alloc, x, line.when(), line.moves(), others)
+}
+
+/// Set y has the place itself, or the place before or behind it.
+pub fn of_side(alloc: Global, side: Side, y: u16) -> Result<Local, AllocError>
+    ensures { IfOk result (λ f. local_of f ≡ at_side side y) }
 {
     match side {
         Side::Left => before(alloc, Local::Sees(y)),
@@ -45,9 +59,9 @@ pub fn of_side(alloc: Global, side: Side, y: usize) -> Result<Local, AllocError>
     }
 }
 
-// The new bit is set z.
-pub fn of_new_bit(alloc: Global, x: &Numbers, z: usize, new: NewBit) -> Result<Local, AllocError>
-    ensures { IfOk result (λ f. local_of f ≡ new_local (number_of x.now) z (new_of new)) }
+/// The new bit is as set z says at the place.
+pub fn of_new_bit(alloc: Global, x: &Numbers, z: u16, new: NewBit) -> Result<Local, AllocError>
+    ensures { IfOk result (λ f. local_of f ≡ new_local (number_of x.now) z new) }
 {
     match new {
         NewBit::Fixed(true) => Ok(Local::Sees(z)),
@@ -60,9 +74,9 @@ pub fn of_new_bit(alloc: Global, x: &Numbers, z: usize, new: NewBit) -> Result<L
     }
 }
 
-// The entry for bit j: where the line has none, the bit stays.
+/// The entry for bit j: where the line has none, the bit stays.
 pub fn entry_of(bits: &[NewBit], j: u8) -> NewBit
-    ensures { new_of result ≡ new_at (news_of bits.now) j j }
+    ensures { result ≡ new_at bits.now j j }
 {
     if (j as usize) < bits.len() {
         bits[j as usize]
@@ -71,7 +85,7 @@ pub fn entry_of(bits: &[NewBit], j: u8) -> NewBit
     }
 }
 
-// The listed bits are the new ones, as the line says.
+/// The listed bits are the new ones, as the line with these entries says: x numbers the bits before the step, y those after.
 pub fn of_new_bits(
     alloc: Global,
     x: &Numbers,
@@ -79,7 +93,7 @@ pub fn of_new_bits(
     js: &[u8],
     bits: &[NewBit],
 ) -> Result<Local, AllocError>
-    ensures { IfOk result (λ f. local_of f ≡ news_local (number_of x.now) (number_of y.now) js.now (news_of bits.now)) }
+    ensures { IfOk result (λ f. local_of f ≡ news_local (number_of x.now) (number_of y.now) js.now bits.now) }
 {
     match js {
         [] => Ok(Local::All),
@@ -91,7 +105,25 @@ pub fn of_new_bits(
     }
 }
 
-// The listed bits are the new ones, by the first line that fits.
+// By a line that makes the bits new, or by the others.
+fn after_line(
+    alloc: Global,
+    x: &Numbers,
+    when: &[Literal],
+    new: Local,
+    others: Local,
+) -> Result<Local, AllocError>
+    ensures { IfOk result (λ f. local_of f ≡ after_line x.now.bits (number_of x.now) when.now (local_of new) (local_of others)) }
+{
+    if when.is_empty() {
+        return Ok(new);
+    }
+    let by_this = implies(alloc, of_pattern(alloc, x, when)?, new)?;
+    let by_others = either(alloc, of_pattern(alloc, x, when)?, others)?;
+    both(alloc, by_this, by_others)
+}
+
+/// The listed bits are the new ones, by the first line that fits; they stay where no line does. x numbers the bits before the step, y those after.
 pub fn of_step(
     alloc: Global,
     x: &Numbers,
@@ -99,20 +131,12 @@ pub fn of_step(
     js: &[u8],
     table: &[Line],
 ) -> Result<Local, AllocError>
-    ensures { IfOk result (λ f. local_of f ≡ after_local x.now.bits (number_of x.now) (number_of y.now) js.now (lines_of table.now)) }
+    ensures { IfOk result (λ f. local_of f ≡ after_local x.now.bits (number_of x.now) (number_of y.now) js.now table.now) }
 {
     let [line, rest @ ..] = table else {
         return of_new_bits(alloc, x, y, js, &[]);
     };
-    let new = of_new_bits(alloc, x, y, js, &line.bits)?;
-    if line.when.literals.is_empty() {
-        return Ok(new);
-    }
-    let by_this = implies(alloc, of_pattern(alloc, x, &line.when.literals)?, new)?;
-    let by_others = either(
-        alloc,
-        of_pattern(alloc, x, &line.when.literals)?,
-        of_step(alloc, x, y, js, rest)?,
-    )?;
-    both(alloc, by_this, by_others)
+    let new = of_new_bits(alloc, x, y, js, line.bits())?;
+    let others = of_step(alloc, x, y, js, rest)?;
+    after_line(alloc, x, line.when(), new, others)
 }

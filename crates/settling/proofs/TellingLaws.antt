@@ -4,7 +4,7 @@ use Rattle.std.proofs.Math.Pow.{pow_mono}
 use Rattle.words.specs.Words.{Word, Columns}
 use Rattle.formulas.specs.declared.name.Name.{Name}
 use Rattle.formulas.specs.declared.formula.Formula.{Formula}
-use Rattle.claiming.specs.Claimed.{Claimed, whole, sets_needed}
+use Rattle.formula_claims.specs.Claimed.{Claimed, whole, sets_needed}
 use Rattle.settling.specs.declared.first.Found.{Found}
 use Rattle.settling.specs.declared.first.Found.TheVariants.{Shortest, Nothing, Many, Unjudged}
 use Rattle.settling.specs.Finding.{Finds}

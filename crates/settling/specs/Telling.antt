@@ -7,8 +7,8 @@ use Rattle.formulas.specs.declared.name.Name.{Name}
 use Rattle.formulas.specs.declared.formula.Formula.{Formula}
 use Rattle.formulas.specs.Meaning.{Env, Meaning}
 use Rattle.translating.specs.Settles.{Singles, env_of}
-use Rattle.claiming.specs.Listed.{listed}
-use Rattle.claiming.specs.Claimed.{whole, sets_needed}
+use Rattle.formula_claims.specs.Listed.{listed}
+use Rattle.formula_claims.specs.Claimed.{whole, sets_needed}
 use Rattle.settling.specs.declared.first.Found.{Found}
 use Rattle.settling.specs.declared.first.Found.TheVariants.{Shortest, Nothing, Many, Unjudged}
 

@@ -2,14 +2,14 @@
 ghost use Rattle.std.specs.Prelude.{IfOk, List};
 ghost use Rattle.formulas.specs.declared.name.Name.{Name};
 ghost use Rattle.formulas.specs.declared.formula.Formula.{Formula};
-ghost use Rattle.claiming.specs.Claimed.{Claimed};
+ghost use Rattle.formula_claims.specs.Claimed.{Claimed};
 ghost use Rattle.settling.specs.Telling.{Tells};
 ghost use Rattle.settling.specs.Finding.{Finds};
 
-use crate::memory::fits;
 use lengths::judge::judge;
 use lengths::judged::Judged;
 use room::floor::floor;
+use room::largest::fits;
 use std::alloc::{AllocError, Global};
 
 #[derive(Drop)]

@@ -2,8 +2,6 @@
 #![tactic(auto)]
 
 pub mod first;
-pub mod marks;
-pub mod memory;
 pub mod narrowing;
 pub mod question;
 pub mod settle;

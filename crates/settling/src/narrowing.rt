@@ -1,10 +1,10 @@
 // Where too much is told apart: the innermost part of a text that is too large by itself.
 use crate::first::{Found, first_row};
 use crate::stop::Stop;
-use claiming::claimed::claim_bytes;
 use elaborating::asked::{Asked, Stated};
 use elaborating::narrow::{Part, parts};
 use elaborating::terms::MOST_PARTS;
+use formula_claims::claimed::claim_bytes;
 use formulas::formula::Formula;
 use formulas::free::free_names;
 use formulas::name::Name;

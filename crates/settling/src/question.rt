@@ -1,19 +1,24 @@
 // What is asked of the judge about a text: the claim under the assumptions, and its opposite under them.
+ghost use Rattle.std.specs.Prelude.{◌≤◌, length};
+
 use crate::stop::Stop;
-use claiming::claimed::claim_bytes;
 use elaborating::asked::{Asked, joined};
 use elaborating::scope::Free;
+use formula_claims::claimed::claim_bytes;
 use formulas::formula::Formula;
 use formulas::name::Name;
 use std::alloc::{AllocError, Global};
 use syntax::tree::Sort;
 
+// Both are bytes of a claim, and so at most 1,024.
 #[derive(Drop)]
 pub struct Question<'a> {
     pub free: Vec<Free<'a>>,
     pub assumes: bool,
     pub holds: Vec<u8>,
     pub fails: Vec<u8>,
+    pub ghost holds_short: { length holds.items ≤ 1024 },
+    pub ghost fails_short: { length fails.items ≤ 1024 },
 }
 
 // The declared names, as formulas number them.

@@ -1,11 +1,11 @@
 // A text, and what is answered.
 use crate::first::{Found, first_row};
-use crate::memory::largest;
 use crate::narrowing::narrowest;
 use crate::question::{Question, question_of};
 use crate::stop::Stop;
 use crate::telling::{put_hex, told, told_columns};
 use elaborating::asked::ask;
+use room::largest::largest;
 use std::alloc::{AllocError, Global};
 use syntax::fault::shown;
 use syntax::parse::read;
@@ -30,7 +30,7 @@ pub struct Source<'a> {
 
 // How many classes may be told apart: as many as are asked for, or as fit.
 fn allowed(question: &Question<'_>, wanted: Option<u32>) -> Result<u32, Stop> {
-    let most = largest(&question.holds).min(largest(&question.fails));
+    let most = largest(&question.holds, u32::MAX).min(largest(&question.fails, u32::MAX));
     match wanted {
         Some(wanted) if wanted <= most => Ok(wanted),
         Some(_) => Err(Stop::Most(most)),

@@ -1,5 +1,5 @@
 // Why a text gets no answer.
-use claiming::claimed::Refusal;
+use formula_claims::claimed::Refusal;
 use std::alloc::{AllocError, AllocFailed, Global};
 use syntax::fault::shown;
 use syntax::position::Span;

@@ -1,8 +1,8 @@
 // What an answer is, in words.
 use crate::first::Found;
-use crate::marks::put_word;
 use crate::question::Question;
 use elaborating::scope::Free;
+use marks::word::put_word;
 use std::alloc::{AllocError, Global};
 use syntax::tree::Sort;
 
@@ -25,6 +25,15 @@ fn condition(assumes: bool) -> &'static str {
     }
 }
 
+// A word as lines of marks, one for each declared name.
+fn put_marks(out: &mut String, free: &[Free<'_>], word: &[u32]) -> Result<(), AllocError> {
+    let mut names = Vec::new(*out.allocator());
+    for declared in free {
+        names.push(declared.name.text.as_str())?;
+    }
+    put_word(out, &names, word)
+}
+
 // A word, or that it has no places.
 fn put_shown(out: &mut String, free: &[Free<'_>], word: &[u32]) -> Result<(), AllocError> {
     let len = word.len();
@@ -34,7 +43,7 @@ fn put_shown(out: &mut String, free: &[Free<'_>], word: &[u32]) -> Result<(), Al
     let places = if len == 1 { "place" } else { "places" };
     let count = format!(in *out.allocator(); ", of {len} {places}:\n")?;
     out.push_str(count.as_str())?;
-    put_word(out, free, word)
+    put_marks(out, free, word)
 }
 
 // Both first words.

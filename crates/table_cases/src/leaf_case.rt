@@ -2,12 +2,11 @@
 ghost use Rattle.std.specs.Prelude.{◌≤◌};
 
 use crate::tell::tell_table;
-use leaves::kind::Kind;
+use claims::atom::Atom;
 use leaves::leaf::leaf;
 use live::dead::dead;
 use std::io;
 use tables::cells::{Table, WordTable};
-use words::bits::Set;
 
 // The claim that set 0 has exactly one place, which is C, with at most `most` classes.
 pub fn leaf_case(rt: &HostRuntime, most: usize) -> io::Result<()>
@@ -19,7 +18,7 @@ pub fn leaf_case(rt: &HostRuntime, most: usize) -> io::Result<()>
     let (mut lefts, mut rights, mut index) = ([7u32; 64], [7u32; 64], [7u32; 128]);
     print!(rt; "leaf, at most {most}: ")?;
     let Some(classes) = leaf(
-        Kind::Single(Set(0)),
+        Atom::Single(0),
         1,
         most,
         &mut rows,

@@ -6,7 +6,6 @@ use crate::combine::{conjoin, project, work_leaf};
 use crate::wanted::Wanted;
 use claims::prefix::skip;
 use claims::sign::{Sign, read_sign};
-use leaves::kind::Kind;
 use room::cut::{Slot, cut_slot};
 use tables::complement::complement;
 
@@ -50,10 +49,7 @@ pub fn work_out(
     let sets = u32::from(k);
     let (sign, rest) = read_sign(part)?;
     match sign {
-        Sign::Within(x, y) => work_leaf(Kind::Within(x, y), sets, most, rows, accept, scratch),
-        Sign::Single(x) => work_leaf(Kind::Single(x), sets, most, rows, accept, scratch),
-        Sign::Next(x, y) => work_leaf(Kind::Next(x, y), sets, most, rows, accept, scratch),
-        Sign::Before(x, y) => work_leaf(Kind::Before(x, y), sets, most, rows, accept, scratch),
+        Sign::Atom(atom) => work_leaf(atom, sets, most, rows, accept, scratch),
         Sign::Not => {
             let m = work_out(rest, wanted, k, most, rows, accept, free, scratch, pairs)?;
             complement(accept, m);

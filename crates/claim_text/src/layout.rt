@@ -1,0 +1,103 @@
+// An expression as lines. One that is short stands on a line; of a longer one the operands stand on lines of their own, the operator before the second,
+// and what is said of bound names a step further in.
+use std::alloc::AllocError;
+use syntax::print::expression;
+use syntax::tree::{
+    Binary, CLOSED, EXTREME, Expr, NOT, Name, Quantifier, Sort, Unary, sign, tightness_of,
+};
+
+// How long a line may be.
+const WIDTH: usize = 100;
+
+// How far in what is said of bound names begins.
+const STEP: usize = 4;
+
+// How tight an expression binds.
+fn level(expr: &Expr) -> u8 {
+    match expr {
+        Expr::Bound(_, _, _, _, _) => 0,
+        Expr::Unary(Unary::Not, _, _) => NOT,
+        Expr::Unary(Unary::Min, _, _) | Expr::Unary(Unary::Max, _, _) => EXTREME,
+        Expr::Binary(binary, _, _, _) => tightness_of(*binary).level,
+        _ => CLOSED,
+    }
+}
+
+fn new_line(out: &mut String, indent: usize) -> Result<(), AllocError> {
+    out.push('\n')?;
+    for _ in 0..indent {
+        out.push(' ')?;
+    }
+    Ok(())
+}
+
+fn word(quantifier: Quantifier, sort: Sort) -> &'static str {
+    match (quantifier, sort) {
+        (Quantifier::Some, Sort::Place) => "ex1",
+        (Quantifier::Some, Sort::Set) => "ex2",
+        (Quantifier::All, Sort::Place) => "all1",
+        (Quantifier::All, Sort::Set) => "all2",
+    }
+}
+
+// The names that are bound, behind the word that binds them.
+fn put_names(out: &mut String, word: &str, names: &[Name]) -> Result<(), AllocError> {
+    out.push_str(word)?;
+    for (i, name) in names.iter().enumerate() {
+        out.push_str(if i == 0 { " " } else { ", " })?;
+        out.push_str(name.text.as_str())?;
+    }
+    out.push_str(":")
+}
+
+// An operand, in parentheses where it binds less tight than it has to.
+#[cycle(layout)]
+fn put_operand(out: &mut String, expr: &Expr, lowest: u8, indent: usize) -> Result<(), AllocError> {
+    if level(expr) >= lowest {
+        return put(out, expr, indent);
+    }
+    out.push('(')?;
+    put(out, expr, indent.saturating_add(1))?;
+    out.push(')')
+}
+
+// How tight the left operand has to bind.
+fn left_level(binary: Binary) -> u8 {
+    let tight = tightness_of(binary);
+    if tight.right == tight.level {
+        tight.level + 1
+    } else {
+        tight.level
+    }
+}
+
+// An operator at the beginning of a line.
+fn put_sign(out: &mut String, binary: Binary, indent: usize) -> Result<(), AllocError> {
+    new_line(out, indent)?;
+    out.push_str(sign(binary))?;
+    out.push(' ')
+}
+
+/// Puts an expression behind what is there, its further lines so many blanks in.
+#[cycle(layout)]
+pub fn put(out: &mut String, expr: &Expr, indent: usize) -> Result<(), AllocError> {
+    let flat = expression(*out.allocator(), expr)?;
+    if flat.len().saturating_add(indent) <= WIDTH {
+        return out.push_str(flat.as_str());
+    }
+    match expr {
+        Expr::Binary(binary, left, right, _) => {
+            put_operand(out, left, left_level(*binary), indent)?;
+            put_sign(out, *binary, indent)?;
+            let inner = indent.saturating_add(sign(*binary).len()).saturating_add(1);
+            put_operand(out, right, tightness_of(*binary).right, inner)
+        }
+        Expr::Bound(quantifier, sort, names, body, _) => {
+            put_names(out, word(*quantifier, *sort), names)?;
+            let inner = indent.saturating_add(STEP);
+            new_line(out, inner)?;
+            put(out, body, inner)
+        }
+        _ => out.push_str(flat.as_str()),
+    }
+}

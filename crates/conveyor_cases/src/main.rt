@@ -1,0 +1,73 @@
+// Cases of `conveyor`: files that are at fault and words that are refused, with the message on standard error and the status of each; claims that are too
+// large, with the place. `conveyor_cases FILE..`
+#![tactic(auto)]
+
+use rule_report::command::{parse, status_of};
+use rule_report::options::Options;
+use rule_report::report::report_file;
+use std::{env, fs};
+
+// What is told of a file, and the status with which the program would end.
+fn tell_file(rt: &HostRuntime, file: &str, options: &Options) -> anyhow::Result<()> {
+    let text = fs::read_to_string(rt, file)?;
+    match report_file(rt.alloc(), file, text.as_str(), options)? {
+        Ok(report) => {
+            println!(rt; "== {file}: status 0")?;
+            print!(rt; "{}", report.text)?;
+        }
+        Err(message) => {
+            println!(rt; "== {file}: status 1")?;
+            print!(rt; "{message}")?;
+        }
+    }
+    Ok(())
+}
+
+// What is told where the words of the command line are refused.
+fn tell_words(rt: &HostRuntime, words: &[&str]) -> anyhow::Result<()> {
+    let mut all = Vec::new(rt.alloc());
+    print!(rt; "==")?;
+    for word in words {
+        print!(rt; " {word}")?;
+        all.push(String::from_str(rt.alloc(), *word)?)?;
+    }
+    match parse(rt.alloc(), &all) {
+        Ok(_) => println!(rt; ": taken")?,
+        Err(error) => {
+            println!(rt; ": status {}", status_of(&error))?;
+            print!(rt; "{error}")?;
+        }
+    }
+    Ok(())
+}
+
+fn run(rt: &HostRuntime) -> anyhow::Result<()> {
+    let plain = Options {
+        most: None,
+        steps: 0,
+        show: false,
+        bytes: false,
+        pictures: false,
+    };
+    for file in env::args(rt)?.skip(1) {
+        tell_file(rt, file.as_str(), &plain)?;
+    }
+    let narrow = Options {
+        most: Some(20),
+        steps: 0,
+        show: false,
+        bytes: false,
+        pictures: false,
+    };
+    tell_file(rt, "large.txt", &narrow)?;
+    tell_words(rt, &["conveyor", "--nonsense"])?;
+    tell_words(rt, &["conveyor", "--steps", "many", "rule.txt"])?;
+    tell_words(rt, &["conveyor", "--most"])?;
+    tell_words(rt, &["conveyor", "--version"])?;
+    tell_words(rt, &["conveyor", "--help"])?;
+    tell_words(rt, &["conveyor", "--steps", "2", "rule.txt"])
+}
+
+fn main(rt: HostRuntime) -> anyhow::Result<()> {
+    run(&rt)
+}

@@ -1,0 +1,10 @@
+use Rattle.std.proofs.Common.{◌≡◌, ◌<◌, ◌+◌, ◌-◌, ◌^◌, min, drop}
+use Rattle.formula_claims.specs.Lengths.{formula_length, places_length}
+use Rattle.formula_claims.proofs.claimed.bytes_needed.Given as goal
+
+-- what is counted with what is still to come is all
+abbrev pub invariant-loop-name : goal.invariant-loop-name
+invariant-loop-name l = record {
+  in_range : l.needed < 2 ^ 64;
+  counted : min (l.needed + places_length (drop l.name-index l.names)) (2 ^ 64 - 1) ≡ min (formula_length l.formula + 1 + places_length l.names) (2 ^ 64 - 1);
+}

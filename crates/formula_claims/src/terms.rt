@@ -1,0 +1,167 @@
+// What claims say of terms: that a set is the place, or in the set, that a term means.
+ghost use Rattle.std.specs.Prelude.{◌≡◌, [], ◌∷◌, IfOk};
+ghost use Rattle.formulas.specs.Names.{names_place, names_group};
+ghost use Rattle.translating.specs.Numbers.{numbers, fresh};
+ghost use Rattle.translating.specs.Translation;
+ghost use Rattle.claims.specs.Trees.{said};
+ghost use Rattle.formula_claims.specs.Scope.{number_of};
+ghost use Rattle.formula_claims.specs.Points;
+
+use crate::scope::{Scope, fresh};
+use crate::tree::{is_before, is_end, is_first, lies, or, some_place};
+use claims::atom::Atom;
+use claims::tree::{Claim, and, not, some_set};
+use formulas::formula::{Group, Place};
+use formulas::free::{push_group, push_place};
+use formulas::name::Name;
+use std::alloc::{AllocError, Global};
+
+// Set n, if it is a place, is the place that the term means.
+#[cycle(terms)]
+pub fn is_place(alloc: Global, place: &Place, scope: &Scope, n: usize) -> Result<Claim, AllocError>
+    ensures { IfOk result (λ c. said c ≡ Translation.is_place place.now (number_of scope.now) n) }
+{
+    match place {
+        Place::Named(x) => lies(alloc, n, scope.number(Name::OfPlace(*x))),
+        Place::First => is_first(alloc, fresh(&[n], &[], scope), n),
+        Place::Succ(t) => {
+            let m = beside_place(alloc, n, t, scope)?;
+            let is_t = is_place(alloc, t, scope, m)?;
+            behind(alloc, t, scope, m, is_t, n)
+        }
+        Place::Prev(t) => {
+            let m = beside_place(alloc, n, t, scope)?;
+            let is_t = is_place(alloc, t, scope, m)?;
+            let before = is_before(alloc, fresh(&[n], &[], scope), n, set_of(t, scope, m))?;
+            let claim = about(alloc, t, m, is_t, before)?;
+            Ok(claim)
+        }
+        Place::Least(s) => {
+            let m = beside_group(alloc, n, s, scope)?;
+            let in_n = is_in(alloc, s, scope, n)?;
+            let in_m = is_in(alloc, s, scope, m)?;
+            let in_m_too = is_in(alloc, s, scope, m)?;
+            is_end(
+                alloc,
+                m,
+                n,
+                in_n,
+                in_m,
+                in_m_too,
+                Claim::Atom(Atom::Before(m, n)),
+            )
+        }
+        Place::Most(s) => {
+            let m = beside_group(alloc, n, s, scope)?;
+            let in_n = is_in(alloc, s, scope, n)?;
+            let in_m = is_in(alloc, s, scope, m)?;
+            let in_m_too = is_in(alloc, s, scope, m)?;
+            is_end(
+                alloc,
+                m,
+                n,
+                in_n,
+                in_m,
+                in_m_too,
+                Claim::Atom(Atom::Before(n, m)),
+            )
+        }
+    }
+}
+
+// Set n, if it is a place, is in the set that the term means.
+#[cycle(terms)]
+pub fn is_in(alloc: Global, group: &Group, scope: &Scope, n: usize) -> Result<Claim, AllocError>
+    ensures { IfOk result (λ c. said c ≡ Translation.is_in group.now (number_of scope.now) n) }
+{
+    match group {
+        Group::Named(x) => lies(alloc, n, scope.number(Name::OfGroup(*x))),
+        Group::Empty => not(alloc, Claim::Atom(Atom::Within(n, n))),
+        Group::Only(t) => is_place(alloc, t, scope, n),
+        Group::Union(s, t) => {
+            let in_s = is_in(alloc, s, scope, n)?;
+            let in_t = is_in(alloc, t, scope, n)?;
+            or(alloc, in_s, in_t)
+        }
+        Group::Inter(s, t) => {
+            let in_s = is_in(alloc, s, scope, n)?;
+            let in_t = is_in(alloc, t, scope, n)?;
+            and(alloc, in_s, in_t)
+        }
+        Group::Minus(s, t) => {
+            let in_s = is_in(alloc, s, scope, n)?;
+            let in_t = is_in(alloc, t, scope, n)?;
+            and(alloc, in_s, not(alloc, in_t)?)
+        }
+    }
+}
+
+// The lowest number that is neither n nor one of the place's names'.
+fn beside_place(alloc: Global, n: usize, place: &Place, scope: &Scope) -> Result<usize, AllocError>
+    ensures { IfOk result (λ m. m ≡ fresh (n ∷ numbers (number_of scope.now) (names_place place.now))) }
+{
+    let mut names = Vec::new(alloc);
+    push_place(&mut names, place)?;
+    Ok(fresh(&[n], &names, scope))
+}
+
+fn beside_group(alloc: Global, n: usize, group: &Group, scope: &Scope) -> Result<usize, AllocError>
+    ensures { IfOk result (λ m. m ≡ fresh (n ∷ numbers (number_of scope.now) (names_group group.now))) }
+{
+    let mut names = Vec::new(alloc);
+    push_group(&mut names, group)?;
+    Ok(fresh(&[n], &names, scope))
+}
+
+// The set that stands for a place: its own if it has a name, else set m.
+pub fn set_of(place: &Place, scope: &Scope, m: usize) -> usize
+    ensures { result ≡ Points.set_of (number_of scope.now) place.now m }
+{
+    match place {
+        Place::Named(x) => scope.number(Name::OfPlace(*x)),
+        _ => m,
+    }
+}
+
+// A claim about a place, as `set_of` gives its set: where that is set m, there is a place m that is_place says to be it. Of the place behind one it says also that it is a place.
+pub fn about(
+    alloc: Global,
+    place: &Place,
+    m: usize,
+    is_place: Claim,
+    claim: Claim,
+) -> Result<Claim, AllocError>
+    ensures { IfOk result (λ r. said r ≡ Points.about_set place.now m (said is_place) (said claim)) }
+{
+    match place {
+        Place::Named(_) => Ok(claim),
+        Place::Succ(_) => {
+            let both = and(alloc, is_place, claim)?;
+            some_set(alloc, m, both)
+        }
+        _ => {
+            let both = and(alloc, is_place, claim)?;
+            some_place(alloc, m, both)
+        }
+    }
+}
+
+// Set n is the place behind this one.
+fn behind(
+    alloc: Global,
+    place: &Place,
+    scope: &Scope,
+    m: usize,
+    is_place: Claim,
+    n: usize,
+) -> Result<Claim, AllocError>
+    ensures { IfOk result (λ r. said r ≡ Translation.behind (number_of scope.now) place.now m (said is_place) n) }
+{
+    match place {
+        Place::Named(x) => Ok(Claim::Atom(Atom::Next(scope.number(Name::OfPlace(*x)), n))),
+        _ => {
+            let both = and(alloc, is_place, Claim::Atom(Atom::Next(m, n)))?;
+            some_set(alloc, m, both)
+        }
+    }
+}

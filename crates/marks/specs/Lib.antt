@@ -1,0 +1,2 @@
+-- The marks of a set's places.
+pub mod Marks

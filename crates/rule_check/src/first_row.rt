@@ -1,0 +1,49 @@
+// A property of the rows of a rule, judged for rows of every length.
+ghost use Rattle.std.specs.Prelude.{ℕ, suc, ◌+◌, ◌*◌, ◌<◌, ◌≤◌, ◌≡◌, ◌∷◌, IfOk, MatchResult};
+ghost use Rattle.claims.specs.Claims.{C};
+ghost use Rattle.claims.specs.Rows.{Claim, IsClaim};
+ghost use Rattle.claims.specs.Encoded.{Refused};
+ghost use Rattle.room.specs.Floor.{floor_words};
+ghost use Rattle.rules.specs.Property.{claim_of};
+ghost use Rattle.rule_check.specs.Told.{Found, Told};
+
+use crate::modules::modules;
+use crate::verdict::Verdict;
+use claims::encode::{Refusal, encode};
+use lengths::judge::judge;
+use lengths::judged::Judged;
+use room::floor::floor;
+use room::largest::largest;
+use rules::property::claim_of;
+use rules::question::Question;
+use std::alloc::{AllocError, Global};
+
+// What is found of a claim about rows of modules of so many bits, with at most n classes: a first word is shorter than there are classes, so two words for each are room for any answer.
+fn found(alloc: Global, bits: u8, claim: &[u8], n: u32) -> Result<Verdict, AllocError>
+    requires few { bits < 32 }
+    requires claim { IsClaim claim.now }
+    requires fits { floor_words claim.now n + 4 * n ≤ 1048576 }
+    ensures { IfOk result (λ v. (k : ℕ) (c : C) → Claim claim.now k c → Found bits k c n v) }
+{
+    let mut work = vec![in alloc; 0u32; floor(claim, n) as usize]?;
+    let mut out = vec![in alloc; 0u32; 2 * n as usize]?;
+    match judge(claim, n, &mut out, &mut work) {
+        Judged::Always => Ok(Verdict::First(Vec::new(alloc))),
+        Judged::Never => Ok(Verdict::Never),
+        Judged::Both(len, _) => Ok(Verdict::First(modules(alloc, bits, &out[..len])?)),
+        Judged::Many => Ok(Verdict::TooLarge(n)),
+        Judged::NoClaim | Judged::OutFull(_, _) | Judged::Few => unreachable!(),
+    }
+}
+
+/// The first row that has the property, where shorter rows come first, and of rows of one length those whose first different column is less; or that no row has it, however long; or that more classes would have to be told apart than `most` and than there is memory for. It is refused only where its claim takes more than 1024 bytes or more than 12 sets, or for want of memory.
+pub fn first_row(alloc: Global, question: &Question<'_>, most: u32) -> Result<Verdict, Refusal>
+    ensures { MatchResult result (Told question.now.rule.now question.now.property most) (Refused (suc question.now.rule.now.bits) (claim_of question.now.rule.now question.now.property)) }
+{
+    let rule = question.rule;
+    let claim = claim_of(alloc, rule, &question.property)?;
+    let bytes = encode(alloc, &claim, rule.bits as usize + 1)?;
+    let n = largest(&bytes, most);
+    let verdict = found(alloc, rule.bits, &bytes, n)?;
+    Ok(verdict)
+}

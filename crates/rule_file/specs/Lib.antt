@@ -1,0 +1,6 @@
+-- What the contracts of rule files cite.
+pub mod Gaps
+pub mod Covering
+pub mod Written
+pub mod Claims
+pub mod Kinds

@@ -1,0 +1,11 @@
+// What is told of a rule file: each claim of its rule judged for rows of every length, its first rows and given rows as rows of marks and as pictures.
+#![tactic(auto)]
+
+pub mod answer;
+pub mod command;
+pub mod narrow;
+pub mod options;
+pub mod report;
+pub mod shown_rows;
+pub mod stop;
+pub mod subject;

@@ -1,0 +1,60 @@
+// Patterns: what the words of a pattern ask of a module and its neighbours.
+use crate::bits::Bits;
+use crate::clash::clashes;
+use crate::fault::Fault;
+use rows::line::Pattern;
+use rows::rule::{Asked, Literal, Side};
+use rule_file::tree::Term;
+use std::alloc::Global;
+
+// What one word asks; `*` asks nothing.
+fn literal(bits: &Bits<'_>, side: Side, term: &Term) -> Result<Option<Literal>, Fault> {
+    let (asked, set) = match term {
+        Term::Any(_) => return Ok(None),
+        Term::Module(_) => (Asked::There, true),
+        Term::Missing(_) => (Asked::There, false),
+        Term::Set(name) => (Asked::Bit(bits.number(*name)?), true),
+        Term::Clear(_, name) => (Asked::Bit(bits.number(*name)?), false),
+    };
+    Ok(Some(Literal { side, asked, set }))
+}
+
+// The words of one part, behind what the parts before it ask.
+fn push_part(
+    bits: &Bits<'_>,
+    side: Side,
+    part: &[Term],
+    literals: &mut Vec<Literal>,
+) -> Result<(), Fault> {
+    for term in part {
+        if let Some(literal) = literal(bits, side, term)? {
+            if clashes(literals, literal) {
+                return Err(Fault::Unfit(term.span()));
+            }
+            literals.push(literal)?;
+        }
+    }
+    Ok(())
+}
+
+/// What a pattern asks, from its left part to its right. Fails where a name is no bit's, where nothing could fit, and for memory.
+pub fn literals_of(
+    alloc: Global,
+    bits: &Bits<'_>,
+    pattern: &rule_file::tree::Pattern,
+) -> Result<Vec<Literal>, Fault> {
+    let mut literals = Vec::new(alloc);
+    push_part(bits, Side::Left, &pattern.left, &mut literals)?;
+    push_part(bits, Side::Own, &pattern.own, &mut literals)?;
+    push_part(bits, Side::Right, &pattern.right, &mut literals)?;
+    Ok(literals)
+}
+
+/// The same as a pattern of a rule.
+pub fn pattern_of(
+    alloc: Global,
+    bits: &Bits<'_>,
+    pattern: &rule_file::tree::Pattern,
+) -> Result<Pattern, Fault> {
+    Ok(Pattern::new(literals_of(alloc, bits, pattern)?))
+}

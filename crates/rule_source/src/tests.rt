@@ -1,0 +1,97 @@
+// What is read of rule files, worked out by hand.
+use crate::claimed::{Put, claims_of};
+use crate::fault::Fault;
+use crate::source::source_of;
+use formulas::formula::{Formula, Group, Place};
+use rows::rule::{Asked, Literal, NewBit, Side};
+use rules::property::Property;
+use std::alloc::Global;
+use std::test::Fail;
+
+const RULE: &str = "bits: tray fork
+allowed:
+  module !tray | * | none
+  * | module | *
+allowed: all1 p: p in fork => p notin tray
+table:
+  * | tray | !tray -> fork=left.tray moves !tray
+row: tray . tray+fork
+never gap: none | fork | *
+claim kept: all1 p: p in fork => p in fork'
+";
+
+fn literal(side: Side, asked: Asked, set: bool) -> Literal {
+    Literal { side, asked, set }
+}
+
+#[test]
+fn patterns_and_lines(rt: HostRuntime) -> Result<(), Fail> {
+    let source = source_of(rt.alloc(), RULE).ok().ok_or("a rule")?;
+    assert!(rt; source.rule.bits == 2);
+    let [ends, _] = source.rule.allowed.as_slice() else {
+        return Err(Fail::from("two patterns"));
+    };
+    let first = [
+        literal(Side::Left, Asked::There, true),
+        literal(Side::Left, Asked::Bit(0), false),
+        literal(Side::Right, Asked::There, false),
+    ];
+    assert!(rt; ends.literals() == first.as_slice());
+    let [line] = source.rule.table.as_slice() else {
+        return Err(Fail::from("a line"));
+    };
+    let bits = [NewBit::Fixed(false), NewBit::AsWas(Side::Left, 0)];
+    assert!(rt; line.moves() && line.bits() == bits.as_slice());
+    let [row] = source.rows.as_slice() else {
+        return Err(Fail::from("a row"));
+    };
+    assert!(rt; row.columns.as_slice() == [1, 0, 3].as_slice());
+    Ok(())
+}
+
+// All places p in set x are in set y, where p has the number that is free next.
+fn all_in(alloc: Global, p: u32, x: u32, then: Formula) -> Result<Formula, Fail> {
+    let within = Formula::In(Place::Named(p), Group::Named(x));
+    let implies = Formula::Implies(Box::new(alloc, within)?, Box::new(alloc, then)?);
+    Ok(Formula::All1(p, Box::new(alloc, implies)?))
+}
+
+#[test]
+fn formulas_and_claims(rt: HostRuntime) -> Result<(), Fail> {
+    let alloc = rt.alloc();
+    let source = source_of(alloc, RULE).ok().ok_or("a rule")?;
+    let outside = Formula::Not(Box::new(alloc, Formula::In(Place::Named(3), Group::Named(0)))?);
+    let limit = all_in(alloc, 3, 1, outside)?;
+    let [read] = source.rule.limits.as_slice() else {
+        return Err(Fail::from("a limit"));
+    };
+    assert!(rt; *read == limit);
+    let claims = claims_of(alloc, &source).ok().ok_or("claims")?;
+    let [gap, fork] = claims.as_slice() else {
+        return Err(Fail::from("two claims"));
+    };
+    assert!(rt; gap.name == "gap" && gap.put == Put::Never);
+    assert!(rt; fork.name == "kept" && fork.put == Put::Claim);
+    let kept = all_in(alloc, 5, 1, Formula::In(Place::Named(5), Group::Named(4)))?;
+    match &fork.question.property {
+        Property::Fails(formula) => assert!(rt; *formula == kept),
+        _ => return Err(Fail::from("a formula")),
+    }
+    Ok(())
+}
+
+#[test]
+fn a_formula_has_its_place(rt: HostRuntime) -> Result<(), Fail> {
+    let text = "bits: tray\nallowed: all1 p: p in trey\n";
+    match source_of(rt.alloc(), text) {
+        Err(Fault::Formula(message, place)) => {
+            assert!(rt;
+                message.as_str() == "expected a name that is declared or bound, found `trey`"
+            );
+            let span = place.ok_or("a place")?;
+            assert!(rt; span.start == 33 && span.end == 37);
+        }
+        _ => return Err(Fail::from("a fault in a formula")),
+    }
+    Ok(())
+}

@@ -1,0 +1,14 @@
+use Rattle.std.proofs.Common.{◌≡◌, ap, ◌∙◌}
+use Rattle.rows.specs.Local.{neg}
+use Rattle.rows.specs.RuleLocal.{allowed_local}
+use Rattle.rows.specs.Faults.{after_number}
+use Rattle.rules.specs.Local.{local_of}
+use Rattle.rules.proofs.claim.some_misfit.Goals as goal
+
+pub returns : goal.returns
+returns c =
+    let r = c.args.rule.now in
+    let y = after_number r.bits c.args.after.now in
+    let e : local_of c.in_ok-other.other ≡ neg (allowed_local r.bits y r.allowed.items) =
+    c.in_ok-other.ensures ∙ (ap neg c.in_ok-of_patterns.ensures ∙ ap (λ t. neg (allowed_local r.bits y t)) c.deref.ensures.value) in
+    rw e at c.somewhere.ensures

@@ -1,0 +1,4 @@
+use Rattle.simulate.proofs.seen.Seen.+after.Given as goal
+
+abbrev pub decreases-after : goal.decreases-after
+decreases-after l = l.count
