@@ -118,7 +118,9 @@ fn the_first_stuck_row_has_27_modules() {
 
     let printed = read("crates/conveyor/stdout");
     let (_, behind) = printed.split_once("no allowed row is stuck: fails, first at length 27\n").unwrap();
-    let lines: Vec<&str> = behind.lines().take(rule.bits.len()).collect();
+    // two lines of ruler stand above the bits
+    let lines: Vec<&str> = behind.lines().skip(2).take(rule.bits.len()).collect();
+    assert_eq!(lines.len(), rule.bits.len());
     for (bit, line) in lines.iter().enumerate() {
         let marks: String = row.iter().map(|module| if module >> bit & 1 == 1 { '#' } else { '.' }).collect();
         assert_eq!(line.split_whitespace().collect::<Vec<_>>(), [rule.bits[bit].as_str(), marks.as_str()]);
