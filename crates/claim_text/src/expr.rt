@@ -4,9 +4,9 @@ use crate::refusal::Refusal;
 use formulas::formula::{Formula, Group, Place};
 use formulas::name::Name;
 use std::alloc::{AllocError, Global};
-use syntax::position::Span;
-use syntax::tree;
-use syntax::tree::{Binary, Expr, Quantifier, Sort, Unary};
+use trees::position::Span;
+use trees::tree;
+use trees::tree::{Binary, Expr, Quantifier, Sort, Unary};
 
 // What is printed stands in no text yet.
 const NOWHERE: Span = Span { start: 0, end: 0 };

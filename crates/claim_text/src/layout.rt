@@ -2,7 +2,7 @@
 // and what is said of bound names a step further in.
 use std::alloc::AllocError;
 use syntax::print::expression;
-use syntax::tree::{
+use trees::tree::{
     Binary, CLOSED, EXTREME, Expr, NOT, Name, Quantifier, Sort, Unary, sign, tightness_of,
 };
 

@@ -5,34 +5,28 @@ ghost use Rattle.claims.specs.Rows.{Claim, IsClaim};
 ghost use Rattle.claims.specs.Encoded.{Refused};
 ghost use Rattle.room.specs.Floor.{floor_words};
 ghost use Rattle.rules.specs.Property.{claim_of};
-ghost use Rattle.rule_check.specs.Told.{Found, Told};
+ghost use Rattle.rule_check.specs.Told.{Found as IsFound, Told};
 
 use crate::modules::modules;
 use crate::verdict::Verdict;
 use claims::encode::{Refusal, encode};
-use lengths::judge::judge;
-use lengths::judged::Judged;
-use room::floor::floor;
+use first_word::first_word::{Found, first_word};
 use room::largest::largest;
 use rules::property::claim_of;
 use rules::question::Question;
 use std::alloc::{AllocError, Global};
 
-// What is found of a claim about rows of modules of so many bits, with at most n classes: a first word is shorter than there are classes, so two words for each are room for any answer.
+// What is found of a claim about rows of modules of so many bits, with at most n classes.
 fn found(alloc: Global, bits: u8, claim: &[u8], n: u32) -> Result<Verdict, AllocError>
     requires few { bits < 32 }
     requires claim { IsClaim claim.now }
     requires fits { floor_words claim.now n + 4 * n ≤ 1048576 }
-    ensures { IfOk result (λ v. (k : ℕ) (c : C) → Claim claim.now k c → Found bits k c n v) }
+    ensures { IfOk result (λ v. (k : ℕ) (c : C) → Claim claim.now k c → IsFound bits k c n v) }
 {
-    let mut work = vec![in alloc; 0u32; floor(claim, n) as usize]?;
-    let mut out = vec![in alloc; 0u32; 2 * n as usize]?;
-    match judge(claim, n, &mut out, &mut work) {
-        Judged::Always => Ok(Verdict::First(Vec::new(alloc))),
-        Judged::Never => Ok(Verdict::Never),
-        Judged::Both(len, _) => Ok(Verdict::First(modules(alloc, bits, &out[..len])?)),
-        Judged::Many => Ok(Verdict::TooLarge(n)),
-        Judged::NoClaim | Judged::OutFull(_, _) | Judged::Few => unreachable!(),
+    match first_word(alloc, claim, n)? {
+        Found::Nothing => Ok(Verdict::Never),
+        Found::First(word) => Ok(Verdict::First(modules(alloc, bits, &word)?)),
+        Found::TooLarge => Ok(Verdict::TooLarge(n)),
     }
 }
 

@@ -2,7 +2,7 @@
 use crate::token::{Kind, Token};
 use std::alloc::{AllocError, AllocFailed, Global};
 use std::str::from_utf8;
-use syntax::position::Span;
+use trees::position::Span;
 use thiserror::Error;
 
 /// What could stand at a place.

@@ -4,7 +4,7 @@ use crate::print::print;
 use crate::token::{Kind, tokens};
 use std::alloc::Global;
 use std::test::Fail;
-use syntax::position::position_of;
+use trees::position::position_of;
 
 // What is said of a text: where it is wrong and how, or its printed form.
 fn said(alloc: Global, text: &str) -> Result<String, Fail> {

@@ -8,7 +8,7 @@ ghost use Rattle.rule_file.specs.Gaps.{in_line_byte, is_gap, ends_line};
 ghost use Rattle.rule_file.specs.Covering.{Covers};
 
 use std::alloc::{AllocError, Global};
-use syntax::position::Span;
+use trees::position::Span;
 
 /// What a token is. A word that means something in a rule file has a kind of its own; every other word is a `Name`.
 #[derive(Clone, Copy, Debug, PartialEq, Eq)]

@@ -4,7 +4,7 @@ ghost use Rattle.std.specs.Prelude.{◌≡◌};
 ghost use Rattle.rule_file.specs.Claims.{claim_name};
 
 use crate::token::Token;
-use syntax::position::Span;
+use trees::position::Span;
 
 /// A word of a pattern's part, as what it asks: nothing (`*`), that there is a module or none, that a bit is set (`tray`) or is not (`!tray`).
 #[derive(Clone, Copy, Debug, PartialEq, Eq)]

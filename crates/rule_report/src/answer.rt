@@ -13,8 +13,8 @@ use rule_source::source::Source;
 use rules::property::claim_of;
 use rules::question::Question;
 use std::alloc::{AllocError, Global};
-use syntax::fault::shown;
-use syntax::position::position_of;
+use trees::shown::shown;
+use trees::position::position_of;
 
 /// A rule file with its name, and how its report is wanted.
 #[derive(Clone, Copy)]

@@ -11,7 +11,7 @@ use rule_source::source::{Source, rule_of, statement_span};
 use rules::property::Property;
 use rules::question::Question;
 use std::alloc::Global;
-use syntax::position::Span;
+use trees::position::Span;
 
 // The property that the subject asks for.
 fn property(alloc: Global, source: &Source<'_>, subject: &Subject<'_>) -> Result<Property, Stop> {

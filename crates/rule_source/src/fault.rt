@@ -3,8 +3,8 @@ use rule_file::token::Token;
 use rules::known::Unsound;
 use std::alloc::{AllocError, AllocFailed, Global};
 use std::str::from_utf8;
-use syntax::fault::shown;
-use syntax::position::{Span, position_of};
+use trees::shown::shown;
+use trees::position::{Span, position_of};
 
 /// Why a file gives no rule.
 #[derive(Debug, Drop)]

@@ -8,9 +8,9 @@ use formulas::formula::Formula;
 use rule_file::token::Token;
 use std::alloc::{AllocError, Global};
 use syntax::parse::read;
-use syntax::position::Span;
+use trees::position::Span;
 use syntax::token::{Kind, tokens};
-use syntax::tree::Item;
+use trees::tree::Item;
 
 /// What a formula speaks of.
 #[derive(Clone, Copy, Debug, PartialEq, Eq)]

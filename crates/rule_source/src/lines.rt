@@ -7,7 +7,7 @@ use rows::line::Line;
 use rows::rule::{NewBit, Side};
 use rule_file::tree::{Change, Effects, Motion, Pattern, Source};
 use std::alloc::Global;
-use syntax::position::Span;
+use trees::position::Span;
 
 // The value that a change gives its bit.
 fn value(bits: &Bits<'_>, change: &Change) -> Result<NewBit, Fault> {

@@ -12,7 +12,7 @@ use rule_file::parse::read;
 use rule_file::tree::{File, Joined, Module, Statement};
 use rules::rule::Rule;
 use std::alloc::Global;
-use syntax::position::Span;
+use trees::position::Span;
 use words::bits::{Set, has_bit, with_bit};
 
 /// A given row, a column for each module, and where it stands in the file.

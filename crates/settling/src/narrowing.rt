@@ -9,8 +9,8 @@ use formulas::formula::Formula;
 use formulas::free::free_names;
 use formulas::name::Name;
 use std::alloc::{AllocError, Global};
-use syntax::position::Span;
-use syntax::tree::Item;
+use trees::position::Span;
+use trees::tree::Item;
 
 // The names that are free in a formula, each once.
 fn names_of(heap: Global, formula: &Formula) -> Result<Vec<Name>, AllocError> {

@@ -8,7 +8,7 @@ use formula_claims::claimed::claim_bytes;
 use formulas::formula::Formula;
 use formulas::name::Name;
 use std::alloc::{AllocError, Global};
-use syntax::tree::Sort;
+use trees::tree::Sort;
 
 // Both are bytes of a claim, and so at most 1,024.
 #[derive(Drop)]

@@ -7,10 +7,10 @@ use crate::telling::{put_hex, told, told_columns};
 use elaborating::asked::ask;
 use room::largest::largest;
 use std::alloc::{AllocError, Global};
-use syntax::fault::shown;
+use trees::shown::shown;
 use syntax::parse::read;
-use syntax::position::position_of;
-use syntax::tree::Item;
+use trees::position::position_of;
+use trees::tree::Item;
 
 // How an answer is shown.
 #[derive(Clone, Copy, Debug, PartialEq, Eq)]

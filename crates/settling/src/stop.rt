@@ -1,8 +1,8 @@
 // Why a text gets no answer.
 use formula_claims::claimed::Refusal;
 use std::alloc::{AllocError, AllocFailed, Global};
-use syntax::fault::shown;
-use syntax::position::Span;
+use trees::shown::shown;
+use trees::position::Span;
 
 #[derive(Drop)]
 pub enum Stop {

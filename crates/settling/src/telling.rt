@@ -4,7 +4,7 @@ use crate::question::Question;
 use elaborating::scope::Free;
 use marks::word::put_word;
 use std::alloc::{AllocError, Global};
-use syntax::tree::Sort;
+use trees::tree::Sort;
 
 // What the declared names stand for.
 fn subject(free: &[Free<'_>]) -> &'static str {

@@ -1,4 +1,3 @@
 -- What the contracts of the readable form's text cite.
-pub mod Position
 pub mod Reading
 pub mod Rising

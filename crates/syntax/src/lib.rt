@@ -1,9 +1,8 @@
-// The readable form of a claim, as text: its tokens, its tree, how a tree is printed, and how a fault is shown beside its line.
+// The readable form of a claim, as text: its tokens, how its tree is read, how a tree is printed.
 #![tactic(auto)]
 
 pub mod fault;
+pub mod operators;
 pub mod parse;
-pub mod position;
 pub mod print;
 pub mod token;
-pub mod tree;

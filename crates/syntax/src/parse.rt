@@ -4,14 +4,12 @@ ghost use Rattle.std.specs.Prelude.{◌≡◌, ℕ, ◌+◌, ◌<◌, ◌≤◌,
 ghost use Rattle.syntax.specs.Reading.{IsBehind};
 
 use crate::fault::{Fault, Wanted};
-use crate::position::Span;
+use crate::operators::{EXTREME, NOT, tightness_of};
 use crate::token::{Kind, Token, tokens};
-use crate::tree::{
-    Binary, EXTREME, Expr, Item, NOT, Name, Parameter, Predicate, Quantifier, Sort, Unary,
-    tightness_of,
-};
 use std::alloc::Global;
 use std::str::from_utf8;
+use trees::position::Span;
+use trees::tree::{Binary, Expr, Item, Name, Parameter, Predicate, Quantifier, Sort, Unary};
 
 // How many parts may stand within one another.
 pub const MOST_DEPTH: u32 = 1000;

@@ -1,9 +1,7 @@
 // Prints a tree as a text that is read as the same tree.
-use crate::tree::{
-    Binary, CLOSED, EXTREME, Expr, Item, NOT, Name, Parameter, Quantifier, Sort, Unary, sign,
-    tightness_of,
-};
+use crate::operators::{CLOSED, EXTREME, NOT, sign, tightness_of};
 use std::alloc::{AllocError, Global};
+use trees::tree::{Expr, Item, Name, Parameter, Quantifier, Sort, Unary};
 
 // How many parentheses: as few as there have to be, or around every part that has operands.
 #[derive(Clone, Copy, Debug, PartialEq, Eq)]

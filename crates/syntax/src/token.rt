@@ -3,8 +3,8 @@ ghost use Rattle.std.specs.Prelude.{◌≡◌, ℕ, ◌+◌, ◌<◌, ◌≤◌,
 ghost use Rattle.syntax.specs.Rising.{Rising};
 
 use crate::fault::Fault;
-use crate::position::Span;
 use std::alloc::Global;
+use trees::position::Span;
 
 #[derive(Clone, Copy, Debug, PartialEq, Eq)]
 pub enum Kind {

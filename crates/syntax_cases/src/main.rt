@@ -3,7 +3,8 @@
 
 use std::alloc::{AllocError, Global};
 use std::io::{BufRead, BufReader};
-use syntax::fault::{Fault, shown};
+use syntax::fault::Fault;
+use trees::shown::shown;
 use syntax::parse::read;
 use syntax::print::{Style, items};
 

@@ -1,0 +1,59 @@
+use Rattle.std.proofs.Common.{◌≡◌, suc, ◌-◌, ◌++◌, ◌∷◌, map, length, take, drop, ◌∙◌, sym, refl, ap, subst, arith, rules, add-one, OnOk}
+use Rattle.formulas.specs.Meaning.{Env}
+use Rattle.resolve.specs.Says.{holds, bind, given, declare, count, text_from}
+use Rattle.resolve.specs.Scopes.{context, Settled, Steady}
+use Rattle.resolve.specs.Asks.{declared, AsksMore}
+use Rattle.resolve.proofs.Iff.{on_ok}
+use Rattle.resolve.proofs.ScopesLaws.{steady_more}
+use Rattle.resolve.proofs.ValuesLaws.{head_rest}
+use Rattle.resolve.proofs.AsksLaws.{assumed_more, claimed_more, name_more, rest_same}
+use Rattle.resolve.proofs.terms.Resolver.+asking.Goals as goal
+
+pub items-returns-in-Free : goal.items-returns-in-Free
+items-returns-in-Free t c =
+    let xs = c.args.items.now in
+    let rest = take (length xs - 1) (drop 1 xs) in
+    let parts = head_rest xs c.first-item.result (omega (arith, c.in-len1-up.len_at_least)) c.first-item.is ∙ ap (λ z. z ∷ rest) c.in-Free.is in
+    rw parts (subst (λ l. OnOk c.names.result (AsksMore c.args.asked.now c.names.new.asked (map (λ x. (x, c.in-Free.sort)) l ++ declared rest)
+    (λ e. text_from rest (count c.args.level l) e (declare c.in-Free.sort l c.args.level e (context c.args.scope.now e))))) c.deref.ensures.value c.names.ensures)
+
+pub items-returns-in_ok-push-in-Assert : goal.items-returns-in_ok-push-in-Assert
+items-returns-in_ok-push-in-Assert t c =
+    let xs = c.args.items.now in
+    let rest = take (length xs - 1) (drop 1 xs) in
+    let parts = head_rest xs c.first-item.result (omega (arith, c.in-len1-up.len_at_least)) c.first-item.is ∙ ap (λ z. z ∷ rest) c.in-Assert.is in
+    rw parts (on_ok c.items-in-Assert.result _ _
+    (λ m. assumed_more c.args.asked.now _ c.items-in-Assert.new.asked (declared rest) (λ e. text_from rest c.args.level e (context c.args.scope.now e)) _
+    (λ e. holds c.in-Assert.expr (context c.args.scope.now e)) refl c.in_ok-push-in-Assert.ensures.items refl c.in_ok-formula-in-Assert.ensures m) c.items-in-Assert.ensures)
+
+pub items-returns-in_ok-push-in-Formula : goal.items-returns-in_ok-push-in-Formula
+items-returns-in_ok-push-in-Formula t c =
+    let xs = c.args.items.now in
+    let rest = take (length xs - 1) (drop 1 xs) in
+    let parts = head_rest xs c.first-item.result (omega (arith, c.in-len1-up.len_at_least)) c.first-item.is ∙ ap (λ z. z ∷ rest) c.in-Formula.is in
+    rw parts (on_ok c.items-in-Formula.result _ _
+    (λ m. claimed_more c.args.asked.now _ c.items-in-Formula.new.asked (declared rest) (λ e. text_from rest c.args.level e (context c.args.scope.now e)) _
+    (λ e. holds c.in-Formula.expr (context c.args.scope.now e)) refl c.in_ok-push-in-Formula.ensures.items refl c.in_ok-formula-in-Formula.ensures m) c.items-in-Formula.ensures)
+
+pub names-names-requires : goal.names-names-requires
+names-names-requires t c =
+    let n = c.args.level in
+    let e : c.in-Some.next ≡ suc n = omega (arith, c.in-Some.ensures) in
+    (search rules, (subst (λ m. Settled m c.numbered-term.result) (sym e) (subst (λ m. Settled m c.numbered-term.result) (add-one n) c.numbered-term.ensures.settled), subst (λ m. Steady m c.args.scope.now) (sym e) (steady_more n c.args.scope.now c.requires)))
+
+pub names-returns : goal.names-returns
+names-returns t c =
+    let n = c.args.level in
+    let xs = c.args.names.now in
+    let x = c.name-item.result in
+    let ys = take (length xs - 1) (drop 1 xs) in
+    let items = c.args.rest.now in
+    let sort = c.args.sort in
+    let e : c.in-Some.next ≡ suc n = omega (arith, c.in-Some.ensures) in
+    let parts = head_rest xs x (omega (arith, c.in-len1-up.len_at_least)) c.name-item.is in
+    rw parts (on_ok c.names.result _ _
+    (λ m. name_more c.args.asked.now _ c.names.new.asked (map (λ y. (y, sort)) ys ++ declared items) (λ f. text_from items (count (suc n) ys) f (declare sort ys (suc n) f (bind x (given sort n f) (context c.args.scope.now f)))) _
+    c.in_ok-push.ensures.items refl refl
+    (rest_same _ c.names.new.asked _ _ _ (λ f.
+    ap (λ v. text_from items (count c.in-Some.next ys) f (declare sort ys c.in-Some.next f (bind x v (context c.args.scope.now f)))) (c.numbered-term.ensures.means f)
+    ∙ ap (λ k. text_from items (count k ys) f (declare sort ys k f (bind x (given sort n f) (context c.args.scope.now f)))) e) m)) c.names.ensures)

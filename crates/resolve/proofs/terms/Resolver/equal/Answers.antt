@@ -1,0 +1,13 @@
+use Rattle.resolve.specs.Scopes.{context}
+use Rattle.resolve.specs.Says.{value}
+use Rattle.resolve.proofs.Iff.{iff_trans, iff_and}
+use Rattle.resolve.proofs.ValuesLaws.{same_sets}
+use Rattle.resolve.proofs.terms.Resolver.equal.Goals as goal
+
+pub returns : goal.returns
+returns c = λ e.
+    let s = context c.args.scope.now e in
+    let sets = c.in_ok-first-in-Set.ensures.sets e in
+    iff_trans (c.in_ok-and-in-Set.ensures e)
+    (iff_trans (iff_and (c.in_ok-first-in-Set.ensures.says e) (c.in_ok-second-in-Set.ensures.says e))
+    (same_sets (value c.args.a.now s) (value c.args.b.now s) sets.0 sets.1))

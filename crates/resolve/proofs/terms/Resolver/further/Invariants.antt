@@ -1,0 +1,6 @@
+use Rattle.std.proofs.Common.{◌≡◌, ◌+◌}
+use Rattle.formulas.specs.Meaning.{Env, value}
+use Rattle.resolve.proofs.terms.Resolver.further.Given as goal
+
+abbrev pub invariant-loop-i : goal.invariant-loop-i
+invariant-loop-i l = (e : Env) → value l.moved e ≡ value l.fn.place e + l.i

@@ -1,0 +1,116 @@
+// Why a text that can be read says nothing: a name that is not declared, a set where a place must stand, and the like.
+use std::alloc::{AllocError, AllocFailed, Global};
+use std::str::from_utf8;
+use trees::position::Span;
+use trees::tree::Sort;
+
+// What an expression stands for.
+#[derive(Clone, Copy, Debug, PartialEq, Eq)]
+pub enum Class {
+    Formula,
+    Place,
+    Set,
+}
+
+#[derive(Clone, Copy, Debug, PartialEq, Eq)]
+pub enum Fault {
+    // what was expected, what stands there
+    Class(Class, Class, Span),
+    Number(Span),
+    Name(Span),
+    Predicate(Span),
+    // how many arguments the predicate has, how many are given
+    Arguments(usize, usize, Span),
+    Again(Span),
+    Deep(Span),
+    Large(Span),
+    Memory,
+}
+
+impl From<AllocError> for Fault {
+    fn from(_error: AllocError) -> Fault {
+        Fault::Memory
+    }
+}
+
+impl<T: Drop> From<AllocFailed<T>> for Fault {
+    fn from(_error: AllocFailed<T>) -> Fault {
+        Fault::Memory
+    }
+}
+
+impl Class {
+    pub fn of(sort: Sort) -> Class {
+        match sort {
+            Sort::Place => Class::Place,
+            Sort::Set => Class::Set,
+        }
+    }
+
+    fn word(self) -> &'static str {
+        match self {
+            Class::Formula => "a formula",
+            Class::Place => "a place",
+            Class::Set => "a set",
+        }
+    }
+}
+
+impl Fault {
+    // Where it stands; without memory nothing in the text is at fault.
+    pub fn span(&self) -> Option<Span> {
+        match self {
+            Fault::Class(_, _, span)
+            | Fault::Number(span)
+            | Fault::Name(span)
+            | Fault::Predicate(span)
+            | Fault::Arguments(_, _, span)
+            | Fault::Again(span)
+            | Fault::Deep(span)
+            | Fault::Large(span) => Some(*span),
+            Fault::Memory => None,
+        }
+    }
+
+    // What was expected and what stands there, in words.
+    pub fn message(&self, heap: Global, text: &[u8]) -> Result<String, AllocError> {
+        let found = match self.span() {
+            Some(span) => from_utf8(span.of(text)).unwrap_or(""),
+            None => "",
+        };
+        match self {
+            Fault::Class(wanted, class, _) => {
+                let wanted = wanted.word();
+                let class = class.word();
+                format!(in heap; "expected {wanted}, found {class}, `{found}`")
+            }
+            Fault::Number(_) => format!(in heap; "expected a number, found `{found}`"),
+            Fault::Name(_) => format!(in heap;
+                "expected a name that is declared or bound, found `{found}`"
+            ),
+            Fault::Predicate(_) => format!(in heap;
+                "expected a predicate that is declared before, found `{found}`"
+            ),
+            Fault::Arguments(wanted, given, _) => {
+                let word = if *wanted == 1 {
+                    "argument"
+                } else {
+                    "arguments"
+                };
+                format!(in heap; "expected {wanted} {word}, found {given} in `{found}`")
+            }
+            Fault::Again(_) => format!(in heap;
+                "expected a name that is not declared yet, found `{found}`"
+            ),
+            Fault::Deep(_) => String::from_str(
+                heap,
+                "expected at most 3000 parts within one another when predicates are expanded, found more",
+            ),
+            Fault::Large(_) => String::from_str(
+                heap,
+                "expected at most 4000 parts when predicates are expanded, found more",
+            ),
+            Fault::Memory => String::from_str(heap, "there is not enough memory"),
+        }
+    }
+}

@@ -1,0 +1,80 @@
+// What names stand for where a part of a text is read: each name a term, each predicate itself and what was known where it is declared.
+ghost use Rattle.std.specs.Prelude.{◌≡◌, ℕ, List, string_bytes, IfSome, MatchOption, ◌↔◌};
+ghost use Rattle.std.specs.Str.{bytes_eq};
+ghost use Rattle.formulas.specs.Meaning.{Env};
+ghost use Rattle.resolve.specs.Says.{Value, none, says_of};
+ghost use Rattle.resolve.specs.Scopes.{meant, context, Steady};
+
+use formulas::formula::{Group, Place};
+use trees::tree::{Name, Predicate, Sort};
+
+// A place or a set, over names that are numbers.
+#[derive(Drop)]
+pub enum Term {
+    Place(Place),
+    Set(Group),
+}
+
+// The innermost name first.
+#[derive(Drop)]
+pub enum Scope<'s> {
+    Outermost,
+    Named(&'s Name, &'s Term, &'s Scope<'s>),
+    Defined(&'s Predicate, &'s Scope<'s>),
+}
+
+// A predicate, and the scope in which it is declared.
+#[derive(Clone, Copy)]
+pub struct Known<'s> {
+    pub predicate: &'s Predicate,
+    pub scope: &'s Scope<'s>,
+}
+
+// A name that the text declares; its number is its index.
+#[derive(Clone, Copy)]
+pub struct Free<'a> {
+    pub name: &'a Name,
+    pub sort: Sort,
+}
+
+pub fn is_same(a: &Name, b: &Name) -> bool
+    ensures { result ≡ bytes_eq (string_bytes a.now.text) (string_bytes b.now.text) }
+{
+    a.text.as_str() == b.text.as_str()
+}
+
+// The term that a name stands for.
+pub fn named<'s>(scope: &'s Scope<'s>, name: &Name) -> Option<&'s Term>
+    ensures { MatchOption result ((e : Env) → (context scope.now e).value (string_bytes name.now.text) ≡ none) (λ t. (e : Env) → (context scope.now e).value (string_bytes name.now.text) ≡ meant t.now e) }
+{
+    match scope {
+        Scope::Outermost => None,
+        Scope::Named(other, term, outer) => {
+            if is_same(other, name) {
+                return Some(*term);
+            }
+            named(outer, name)
+        }
+        Scope::Defined(_, outer) => named(outer, name),
+    }
+}
+
+// The predicate of a name.
+pub fn defined<'s>(scope: &'s Scope<'s>, name: &Name) -> Option<Known<'s>>
+    ensures says { MatchOption result ((e : Env) (vs : List Value) → (context scope.now e).says (string_bytes name.now.text) vs → ⊥) (λ k. (e : Env) (vs : List Value) → (context scope.now e).says (string_bytes name.now.text) vs ↔ says_of k.predicate.now (context k.scope.now e) vs) }
+    ensures steady { IfSome result (λ k. (n : ℕ) → Steady n scope.now → Steady n k.scope.now) }
+{
+    match scope {
+        Scope::Outermost => None,
+        Scope::Named(_, _, outer) => defined(outer, name),
+        Scope::Defined(predicate, outer) => {
+            if is_same(&predicate.name, name) {
+                return Some(Known {
+                    predicate: *predicate,
+                    scope: *outer,
+                });
+            }
+            defined(outer, name)
+        }
+    }
+}

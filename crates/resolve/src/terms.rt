@@ -1,0 +1,251 @@
+// Expressions as terms.
+ghost use Rattle.std.specs.Prelude.{◌≡◌, ℕ, ◌+◌, ◌-◌, map, IfOk, List, string_bytes};
+ghost use Rattle.formulas.specs.Meaning;
+ghost use Rattle.formulas.specs.Meaning.{Env, members};
+ghost use Rattle.resolve.specs.Says.{value, place, set, each_place};
+ghost use Rattle.resolve.specs.declared.scope.Scope.{Scope as Known};
+ghost use Rattle.resolve.specs.Scopes.{meant, context};
+
+use crate::built::{inter, least, minus, most, only, prev, succ, union};
+use crate::fault::{Class, Fault};
+use crate::scope::{Scope, Term, named};
+use formulas::formula::{Group, Place};
+use std::alloc::Global;
+use trees::position::Span;
+use trees::tree::{Binary, Expr, Name, Unary};
+
+// How many parts a text may have once its predicates are expanded.
+pub const MOST_PARTS: u32 = 4000;
+// How many calls may be open.
+pub const MOST_CALLS: u32 = 3000;
+
+// Makes terms and formulas, as long as parts may still be made.
+#[derive(Drop)]
+pub struct Resolver {
+    pub heap: Global,
+    pub parts: u32,
+}
+
+// One call less may be open from here on.
+pub fn inner(calls: u32, span: Span) -> Result<u32, Fault>
+    ensures { IfOk result (λ left. left + 1 ≡ calls) }
+{
+    if calls == 0 {
+        return Err(Fault::Deep(span));
+    }
+    Ok(calls - 1)
+}
+
+// The number that stands behind `+` or `-`.
+fn number(expr: &Expr) -> Result<u32, Fault>
+    ensures { IfOk result (λ n. (s : Known) (e : Env) → value expr.now (context s e) ≡ place n) }
+{
+    match expr {
+        Expr::Number(n, _) => Ok(*n),
+        _ => Err(Fault::Number(expr.span())),
+    }
+}
+
+impl Resolver {
+    // One part less may be made from here on.
+    pub fn spend(&mut self, span: Span) -> Result<(), Fault> {
+        if self.parts == 0 {
+            return Err(Fault::Large(span));
+        }
+        self.parts -= 1;
+        Ok(())
+    }
+
+    #[cycle(copying)]
+    fn copied_place(&mut self, place: &Place, span: Span) -> Result<Place, Fault>
+        ensures { IfOk result (λ t. (e : Env) → Meaning.value t e ≡ Meaning.value place.now e) }
+    {
+        self.spend(span)?;
+        match place {
+            Place::Named(x) => Ok(Place::Named(*x)),
+            Place::First => Ok(Place::First),
+            Place::Succ(inner) => {
+                let inner = self.copied_place(inner, span)?;
+                Ok(succ(self.heap, inner)?)
+            }
+            Place::Prev(inner) => {
+                let inner = self.copied_place(inner, span)?;
+                Ok(prev(self.heap, inner)?)
+            }
+            Place::Least(set) => {
+                let set = self.copied_group(set, span)?;
+                Ok(least(self.heap, set)?)
+            }
+            Place::Most(set) => {
+                let set = self.copied_group(set, span)?;
+                Ok(most(self.heap, set)?)
+            }
+        }
+    }
+
+    #[cycle(copying)]
+    fn copied_group(&mut self, group: &Group, span: Span) -> Result<Group, Fault>
+        ensures { IfOk result (λ t. (e : Env) → members t e ≡ members group.now e) }
+    {
+        self.spend(span)?;
+        match group {
+            Group::Named(x) => Ok(Group::Named(*x)),
+            Group::Empty => Ok(Group::Empty),
+            Group::Only(place) => {
+                let place = self.copied_place(place, span)?;
+                Ok(only(self.heap, place)?)
+            }
+            Group::Union(a, b) => {
+                let a = self.copied_group(a, span)?;
+                let b = self.copied_group(b, span)?;
+                Ok(union(self.heap, a, b)?)
+            }
+            Group::Inter(a, b) => {
+                let a = self.copied_group(a, span)?;
+                let b = self.copied_group(b, span)?;
+                Ok(inter(self.heap, a, b)?)
+            }
+            Group::Minus(a, b) => {
+                let a = self.copied_group(a, span)?;
+                let b = self.copied_group(b, span)?;
+                Ok(minus(self.heap, a, b)?)
+            }
+        }
+    }
+
+    fn copied(&mut self, term: &Term, span: Span) -> Result<Term, Fault>
+        ensures { IfOk result (λ t. (e : Env) → meant t e ≡ meant term.now e) }
+    {
+        match term {
+            Term::Place(place) => Ok(Term::Place(self.copied_place(place, span)?)),
+            Term::Set(group) => Ok(Term::Set(self.copied_group(group, span)?)),
+        }
+    }
+
+    // The place n further on.
+    fn further(&mut self, place: Place, n: u32, span: Span) -> Result<Place, Fault>
+        ensures { IfOk result (λ t. (e : Env) → Meaning.value t e ≡ Meaning.value place e + n) }
+    {
+        let mut moved = place;
+        for i in 0..n {
+            self.spend(span)?;
+            moved = succ(self.heap, moved)?;
+        }
+        Ok(moved)
+    }
+
+    // The place n before, but not before place 0.
+    fn back(&mut self, place: Place, n: u32, span: Span) -> Result<Place, Fault>
+        ensures { IfOk result (λ t. (e : Env) → Meaning.value t e ≡ Meaning.value place e - n) }
+    {
+        let mut moved = place;
+        for i in 0..n {
+            self.spend(span)?;
+            moved = prev(self.heap, moved)?;
+        }
+        Ok(moved)
+    }
+
+    // What a name stands for.
+    fn name(&mut self, name: &Name, scope: &Scope<'_>) -> Result<Term, Fault>
+        ensures { IfOk result (λ t. (e : Env) → (context scope.now e).value (string_bytes name.now.text) ≡ meant t e) }
+    {
+        match named(scope, name) {
+            Some(term) => self.copied(term, name.span),
+            None => Err(Fault::Name(name.span)),
+        }
+    }
+
+    // The place or the set that an expression stands for.
+    #[cycle(terms)]
+    pub fn term(
+        &mut self,
+        wanted: Class,
+        expr: &Expr,
+        scope: &Scope<'_>,
+        calls: u32,
+    ) -> Result<Term, Fault>
+        ensures { IfOk result (λ t. (e : Env) → value expr.now (context scope.now e) ≡ meant t e) }
+    {
+        let calls = inner(calls, expr.span())?;
+        self.spend(expr.span())?;
+        match expr {
+            Expr::Named(name) => self.name(name, scope),
+            Expr::Number(n, span) => Ok(Term::Place(self.further(Place::First, *n, *span)?)),
+            Expr::Empty(_) => Ok(Term::Set(Group::Empty)),
+            Expr::Listed(all, _) => Ok(Term::Set(self.listed(all, scope, calls)?)),
+            Expr::Unary(Unary::Min, a, _) => {
+                let a = self.group(a, scope, calls)?;
+                Ok(Term::Place(least(self.heap, a)?))
+            }
+            Expr::Unary(Unary::Max, a, _) => {
+                let a = self.group(a, scope, calls)?;
+                Ok(Term::Place(most(self.heap, a)?))
+            }
+            Expr::Binary(Binary::Plus, a, n, span) => {
+                let a = self.place(a, scope, calls)?;
+                Ok(Term::Place(self.further(a, number(n)?, *span)?))
+            }
+            Expr::Binary(Binary::Minus, a, n, span) => {
+                let a = self.place(a, scope, calls)?;
+                Ok(Term::Place(self.back(a, number(n)?, *span)?))
+            }
+            Expr::Binary(Binary::Union, a, b, _) => {
+                let a = self.group(a, scope, calls)?;
+                let b = self.group(b, scope, calls)?;
+                Ok(Term::Set(union(self.heap, a, b)?))
+            }
+            Expr::Binary(Binary::Inter, a, b, _) => {
+                let a = self.group(a, scope, calls)?;
+                let b = self.group(b, scope, calls)?;
+                Ok(Term::Set(inter(self.heap, a, b)?))
+            }
+            Expr::Binary(Binary::Without, a, b, _) => {
+                let a = self.group(a, scope, calls)?;
+                let b = self.group(b, scope, calls)?;
+                Ok(Term::Set(minus(self.heap, a, b)?))
+            }
+            _ => Err(Fault::Class(wanted, Class::Formula, expr.span())),
+        }
+    }
+
+    #[cycle(terms)]
+    pub fn place(&mut self, expr: &Expr, scope: &Scope<'_>, calls: u32) -> Result<Place, Fault>
+        ensures { IfOk result (λ t. (e : Env) → value expr.now (context scope.now e) ≡ place (Meaning.value t e)) }
+    {
+        let calls = inner(calls, expr.span())?;
+        match self.term(Class::Place, expr, scope, calls)? {
+            Term::Place(place) => Ok(place),
+            Term::Set(_) => Err(Fault::Class(Class::Place, Class::Set, expr.span())),
+        }
+    }
+
+    #[cycle(terms)]
+    pub fn group(&mut self, expr: &Expr, scope: &Scope<'_>, calls: u32) -> Result<Group, Fault>
+        ensures { IfOk result (λ t. (e : Env) → value expr.now (context scope.now e) ≡ set (members t e)) }
+    {
+        let calls = inner(calls, expr.span())?;
+        match self.term(Class::Set, expr, scope, calls)? {
+            Term::Set(group) => Ok(group),
+            Term::Place(_) => Err(Fault::Class(Class::Set, Class::Place, expr.span())),
+        }
+    }
+
+    // The set of the places of a list.
+    #[cycle(terms)]
+    fn listed(&mut self, all: &[Expr], scope: &Scope<'_>, calls: u32) -> Result<Group, Fault>
+        ensures { IfOk result (λ t. (e : Env) → each_place (map (λ a. value a (context scope.now e)) all.now) ≡ members t e) }
+    {
+        let [first, others @ ..] = all else {
+            return Ok(Group::Empty);
+        };
+        let calls = inner(calls, first.span())?;
+        let place = self.place(first, scope, calls)?;
+        let single = only(self.heap, place)?;
+        if others.is_empty() {
+            return Ok(single);
+        }
+        let set = self.listed(others, scope, calls)?;
+        Ok(union(self.heap, single, set)?)
+    }
+}

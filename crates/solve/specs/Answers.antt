@@ -1,0 +1,49 @@
+-- What an answer says of a text, for all places and finite sets that its declared names can stand for.
+use Rattle.std.specs.Prelude.{ℕ, suc, List, [], ◌∷◌, map, length, ◌⊎◌}
+use Rattle.words.specs.Words.{Word, Columns, bit, sets}
+use Rattle.words.specs.Order.{Less}
+use Rattle.claims.specs.Claims.{Only}
+use Rattle.claims.specs.Sizes.{Fits}
+use Rattle.formulas.specs.Sets.{lowest}
+use Rattle.formulas.specs.Meaning.{Env}
+use Rattle.formula_claims.specs.Claimed.{whole, sets_needed}
+use Rattle.trees.specs.declared.tree.Name.{Name}
+use Rattle.trees.specs.declared.tree.Sort.{Sort}
+use Rattle.trees.specs.declared.tree.Sort.TheVariants.{Place, Set}
+use Rattle.trees.specs.declared.tree.Item.{Item}
+use Rattle.resolve.specs.Says.{text}
+use Rattle.resolve.specs.Asks.{declared}
+use Rattle.solve.specs.Questions.{HoldsOf, FailsOf, Puts, names_of}
+use Rattle.solve.specs.declared.answer.Answer.{Answer}
+use Rattle.solve.specs.declared.answer.Answer.TheVariants.{Always, Unmet, Never, Both, TooLarge}
+
+-- the places and sets that a row shows: bit x of a column says whether the declared name with number x has the place
+abbrev pub shown : Word → Env
+shown w = record { places = λ x. lowest (map (bit x) w); groups = λ x. map (bit x) w }
+
+-- the name with number n has one place, if it is a place's
+abbrev pub Marked : Sort → ℕ → Word → Type 0
+Marked Place n w = (i : ℕ) × Only (sets w) n i
+Marked Set n w = Unit {0}
+
+-- the row gives the declared names, numbered from n on, places and sets
+abbrev pub IsRow : ℕ → List (Name × Sort) → Word → Type 0
+IsRow n [] w = Unit {0}
+IsRow n (d ∷ l) w = Marked d.1 n w × IsRow (suc n) l w
+
+-- w is the first row that shows places and sets of which P is true
+pub record FirstRow (l : List (Name × Sort)) (P : Env → Type 0) (w : Word) : Type 0 where
+  pub row : IsRow 0 l w
+  pub holds : P (shown w)
+  pub first : (u : Word) → Columns (length l) u → Less u w → IsRow 0 l u → P (shown u) → ⊥
+
+-- more than n classes have to be told apart at the claim of P
+abbrev pub Large : List Item → ℕ → (Env → Type 0) → Type 0
+Large items n P = (bytes : List ℕ) × (p : Puts (names_of items) P bytes) × (Fits (sets_needed (names_of items) p.formula) n (whole (names_of items) p.formula) → ⊥)
+
+abbrev pub Answers : List Item → ℕ → Answer → Type 0
+Answers items n Always = ((e : Env) → (text items e).assumed → (text items e).claimed) × (e : Env) × (text items e).assumed
+Answers items n Unmet = (e : Env) → (text items e).assumed → ⊥
+Answers items n Never = ((e : Env) → (text items e).assumed → (text items e).claimed → ⊥) × (e : Env) × (text items e).assumed
+Answers items n (Both u v) = FirstRow (declared items) (HoldsOf items) u.items × FirstRow (declared items) (FailsOf items) v.items
+Answers items n TooLarge = Large items n (HoldsOf items) ⊎ Large items n (FailsOf items)

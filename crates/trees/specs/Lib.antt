@@ -1,0 +1,2 @@
+-- What the contracts of a text's tree cite.
+pub mod Position
