@@ -3,7 +3,7 @@
 // that the number of a set is the place of its name in that line.
 use crate::bits::Bits;
 use crate::fault::Fault;
-use elaborating::asked::ask;
+use resolve::asked::ask;
 use formulas::formula::Formula;
 use rule_file::token::Token;
 use std::alloc::{AllocError, Global};

@@ -1,51 +1,42 @@
-// Settles a claim: `settle FILE`, or from standard input. `--help` says how.
+// Settles a claim: `settle FILE`, or from standard input. `--help` says how, docs/CLAIMS.md how a claim is written.
 #![tactic(auto)]
 
 mod options;
 
-use crate::options::{Options, Wish, parse};
-use settling::settle::{Source, settle};
+use crate::options::{Options, options_of, parse, status_of};
+use claim_report::report::{Source, report};
 use std::io::Read;
 use std::process::ExitCode;
 use std::rt::Files;
-use std::{env, fs};
+use std::{env, fs, io};
 
-const HELP: &str = "settle [FILE] [--most N] [--columns | --bytes]
-
-Reads a claim about places and finite sets of places from FILE, or from standard input, and says of which it holds.
-
-    --most N    at most N classes may be told apart at a part; without it as many as 4 MiB have room for
-    --columns   the answer in one line, words as numbers
-    --bytes     the claim, and its opposite, as lines for the line tool
-    --help      this
-
-docs/CLAIMS.md says how a claim is written.
-";
-
-fn read_input(rt: &HostRuntime, file: Option<&str>) -> anyhow::Result<Vec<u8>> {
-    match file {
-        Some(path) => Ok(fs::read(rt, path)?),
-        None => {
-            let mut text = Vec::new(rt.alloc());
-            rt.stdin().read_to_end(&mut text)?;
-            Ok(text)
-        }
+// The text of a file, or of standard input.
+fn read_input(rt: &HostRuntime, file: &str) -> io::Result<Vec<u8>> {
+    if file == "-" {
+        let mut text = Vec::new(rt.alloc());
+        rt.stdin().read_to_end(&mut text)?;
+        Ok(text)
+    } else {
+        fs::read(rt, file)
     }
 }
 
-fn settle_file(rt: &HostRuntime, options: &Options) -> anyhow::Result<ExitCode> {
-    let file = match &options.file {
-        Some(file) => Some(file.as_str()),
-        None => None,
+fn settle_file(rt: &HostRuntime, options: &Options<'_>) -> anyhow::Result<ExitCode> {
+    let file = options.file;
+    let text = match read_input(rt, file) {
+        Ok(text) => text,
+        Err(error) => {
+            eprintln!(rt; "{file}: {error}")?;
+            return Ok(ExitCode::FAILURE);
+        }
     };
-    let text = read_input(rt, file)?;
     let source = Source {
-        file: file.unwrap_or("input"),
+        file: if file == "-" { "input" } else { file },
         text: &text,
     };
-    match settle(rt.alloc(), source, options.most, options.form)? {
-        Ok(answer) => {
-            print!(rt; "{answer}")?;
+    match report(rt.alloc(), source, options.most, options.form)? {
+        Ok(words) => {
+            print!(rt; "{words}")?;
             Ok(ExitCode::SUCCESS)
         }
         Err(message) => {
@@ -56,17 +47,15 @@ fn settle_file(rt: &HostRuntime, options: &Options) -> anyhow::Result<ExitCode> 
 }
 
 fn run(rt: &HostRuntime) -> anyhow::Result<ExitCode> {
-    let mut words = Vec::new(rt.alloc());
-    for word in env::args(rt)?.skip(1) {
-        words.push(word)?;
-    }
-    match parse(rt.alloc(), &words)? {
-        Wish::Help => {
-            print!(rt; "{HELP}")?;
-            Ok(ExitCode::SUCCESS)
+    let words: Vec<String> = env::args(rt)?.collect(rt.alloc())?;
+    let matches = match parse(rt.alloc(), &words) {
+        Ok(matches) => matches,
+        Err(error) => {
+            error.print(rt)?;
+            return Ok(ExitCode::from(status_of(&error)));
         }
-        Wish::Settle(options) => settle_file(rt, &options),
-    }
+    };
+    settle_file(rt, &options_of(&matches))
 }
 
 fn main(rt: HostRuntime) -> anyhow::Result<ExitCode> {

@@ -1,51 +1,80 @@
-// The words of the command line.
-use anyhow::bail;
-use settling::settle::Form;
+// The command line of `settle`.
+use claim_report::report::Form;
+use clap::error::Error;
+use clap::{Arg, ArgAction, ArgMatches, Command};
 use std::alloc::Global;
 
-#[derive(Drop)]
-pub struct Options {
-    pub file: Option<String>,
+const ABOUT: &str =
+    "Says of which places and finite sets of places a claim holds, for rows of every length";
+
+const MORE: &str = "Without FILE, or where it is `-`, the claim is read from standard input. A text that is at fault is told on
+standard error, and the status is 1.
+
+docs/CLAIMS.md says how a claim is written.";
+
+/// What the command line asks for.
+#[derive(Clone, Copy, Debug, PartialEq, Eq)]
+pub struct Options<'a> {
+    /// The file of the text, or `-` for standard input.
+    pub file: &'a str,
+    /// At most so many classes are told apart at a part of the claim; without it as many as 4 MiB have room for.
     pub most: Option<u32>,
+    /// How the answer is shown.
     pub form: Form,
 }
 
-#[derive(Drop)]
-pub enum Wish {
-    Help,
-    Settle(Options),
+// The arguments.
+fn command<'a>(alloc: Global) -> Result<Command<'a>, Error> {
+    let file = Arg::new(alloc, "FILE").help("The claim's text");
+    let most = Arg::new(alloc, "most")
+        .long("most")
+        .value_name("N")
+        .value_parser(clap::value_parser!(u32))
+        .help(
+            "At most N classes are told apart at a part of the claim [default: as many as 4 MiB have room for]",
+        );
+    let columns = Arg::new(alloc, "columns")
+        .long("columns")
+        .action(ArgAction::SetTrue)
+        .help("Show the answer in one line, words as numbers");
+    let bytes = Arg::new(alloc, "bytes")
+        .long("bytes")
+        .action(ArgAction::SetTrue)
+        .help("Show the claim and its opposite as bytes, as the line tool reads them, and no answer");
+    Ok(
+        Command::new(alloc, "settle")
+            .version("1.0.0")
+            .about(ABOUT)
+            .after_help(MORE)
+            .arg(file)?
+            .arg(most)?
+            .arg(columns)?
+            .arg(bytes)?,
+    )
 }
 
-pub fn parse(heap: Global, words: &[String]) -> anyhow::Result<Wish> {
-    let mut options = Options {
-        file: None,
-        most: None,
-        form: Form::Rows,
+/// What the words of the command line ask for. An error also where they ask for help or for the version.
+pub fn parse<'a>(alloc: Global, words: &'a [String]) -> Result<ArgMatches<'a>, Error> {
+    command(alloc)?.try_get_matches_from(words)
+}
+
+/// The status with which the program ends where the words are refused, or ask for help or for the version.
+pub fn status_of(error: &Error) -> u8 {
+    if error.exit_code() == 0 { 0 } else { 1 }
+}
+
+/// The file, and how the answer is wanted.
+pub fn options_of<'a>(matches: &'a ArgMatches<'a>) -> Options<'a> {
+    let form = if matches.get_flag("bytes") {
+        Form::Bytes
+    } else if matches.get_flag("columns") {
+        Form::Columns
+    } else {
+        Form::Rows
     };
-    let mut rest = words;
-    while let [word, more @ ..] = rest {
-        rest = more;
-        match word.as_str() {
-            "--help" => return Ok(Wish::Help),
-            "--columns" => options.form = Form::Columns,
-            "--bytes" => options.form = Form::Bytes,
-            "--most" => {
-                let [number, more @ ..] = rest else {
-                    bail!("expected a number behind --most, found nothing");
-                };
-                rest = more;
-                let Ok(most) = number.as_str().parse::<u32>() else {
-                    bail!("expected a number behind --most, found {number}");
-                };
-                options.most = Some(most);
-            }
-            other => {
-                if other.starts_with("--") || options.file.is_some() {
-                    bail!("expected one file, --most, --columns, --bytes or --help, found {other}");
-                }
-                options.file = Some(String::from_str(heap, other)?);
-            }
-        }
+    Options {
+        file: matches.get_str("FILE").unwrap_or("-"),
+        most: matches.get_one::<u32>("most"),
+        form,
     }
-    Ok(Wish::Settle(options))
 }

@@ -2,7 +2,7 @@
 // A first line `most N` says how many classes may be told apart, `columns` and `bytes` how the answer is shown.
 #![tactic(auto)]
 
-use settling::settle::{Form, Source, settle};
+use claim_report::report::{Form, Source, report};
 use std::io::{BufRead, BufReader};
 use std::str::from_utf8;
 
@@ -42,7 +42,7 @@ fn setting(line: &[u8], before: Wanted) -> Option<Wanted> {
 
 fn tell(rt: &HostRuntime, text: &[u8], wanted: Wanted) -> anyhow::Result<()> {
     let source = Source { file: "case", text };
-    match settle(rt.alloc(), source, wanted.most, wanted.form)? {
+    match report(rt.alloc(), source, wanted.most, wanted.form)? {
         Ok(answer) => println!(rt; "{answer}")?,
         Err(message) => println!(rt; "{message}")?,
     }

@@ -1,7 +1,7 @@
 // Answers in one form: `never`, or the columns of the first row.
 use anyhow::bail;
 use rule_check::verdict::Verdict;
-use settling::settle::{Form, Source, settle};
+use claim_report::report::{Form, Source, report};
 use std::alloc::Global;
 
 /// What is found of a rule of modules of so many bits. A module's column has the row's bit, too.
@@ -74,11 +74,11 @@ pub fn asked_of_settle(alloc: Global, text: &str) -> anyhow::Result<Settled> {
         file: "text",
         text: text.as_bytes(),
     };
-    let lines = match settle(alloc, source, None, Form::Bytes)? {
+    let lines = match report(alloc, source, None, Form::Bytes)? {
         Ok(lines) => lines,
         Err(message) => return Ok(Settled::Refused(message)),
     };
-    match settle(alloc, source, None, Form::Columns)? {
+    match report(alloc, source, None, Form::Columns)? {
         Ok(answer) => Ok(Settled::Answer(
             first_of(alloc, answer.as_str())?,
             size_of(alloc, lines.as_str())?,

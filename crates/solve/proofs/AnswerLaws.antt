@@ -14,12 +14,12 @@ use Rattle.trees.specs.declared.tree.Sort.{Sort}
 use Rattle.trees.specs.declared.tree.Item.{Item}
 use Rattle.resolve.specs.Says.{Text, text, nothing}
 use Rattle.resolve.specs.Asks.{declared}
-use Rattle.solve.specs.declared.first.Found.{Found}
-use Rattle.solve.specs.declared.first.Found.TheVariants.{Shortest, Nothing, Many, Unjudged}
+use Rattle.first_word.specs.declared.first_word.Found.{Found}
+use Rattle.first_word.specs.declared.first_word.Found.TheVariants.{Nothing, First, TooLarge}
 use Rattle.solve.specs.Telling.{HoldsOf as RowOf, Tells}
 use Rattle.solve.specs.Questions.{HoldsOf, FailsOf, Puts, names_of, numbered}
 use Rattle.solve.specs.Answers.{shown, IsRow, FirstRow, Large, Answers}
-use Rattle.solve.specs.declared.answer.Answer.TheVariants.{Always, Unmet, Never, Both, TooLarge}
+use Rattle.solve.specs.declared.answer.Answer.TheVariants.{Always, Unmet, Never, Both}
 use Rattle.solve.proofs.TellingLaws.{columns_wider}
 use Rattle.solve.proofs.TextLaws.{text_same}
 use Rattle.solve.proofs.RowLaws.{numbered_at, shown_alike, is_row, singles_of, numbered_length}
@@ -54,7 +54,7 @@ row_of items F a w m =
     )
 
 pub first_row : (items : List Item) (F : Text → Type 0) (s : List ℕ) (n : ℕ) (w : _) → Puts (names_of items) (λ e. F (text items e)) s →
-    ((l : List Numbered) (a : Formula) → Claimed l a s → Tells l a n (Shortest w)) → FirstRow (declared items) (λ e. F (text items e)) w.items
+    ((l : List Numbered) (a : Formula) → Claimed l a s → Tells l a n (First w)) → FirstRow (declared items) (λ e. F (text items e)) w.items
 first_row items F s n w p found =
     let l = names_of items in
     let a = p.formula in
@@ -72,7 +72,7 @@ abbrev pub FoundOf : List ℕ → ℕ → Found → Type 0
 FoundOf s n found = (l : List Numbered) (a : Formula) → Claimed l a s → Tells l a n found
 
 pub always : (items : List Item) (s t : List ℕ) (n : ℕ) (u : _) → Puts (names_of items) (HoldsOf items) s → Puts (names_of items) (FailsOf items) t →
-    FoundOf s n (Shortest u) → FoundOf t n Nothing → Answers items n Always
+    FoundOf s n (First u) → FoundOf t n Nothing → Answers items Always
 always items s t n u p q f g =
     let row = first_row items Holding s n u p f in (
       λ e a. elim (decided (names_of items) p.formula s p.claimed e) [
@@ -84,21 +84,21 @@ always items s t n u p q f g =
     )
 
 pub unmet : (items : List Item) (s t : List ℕ) (n : ℕ) → Puts (names_of items) (HoldsOf items) s → Puts (names_of items) (FailsOf items) t →
-    FoundOf s n Nothing → FoundOf t n Nothing → Answers items n Unmet
+    FoundOf s n Nothing → FoundOf t n Nothing → Answers items Unmet
 unmet items s t n p q f g = λ e a. elim (decided (names_of items) p.formula s p.claimed e) [
   | inl m ↦ f (names_of items) p.formula p.claimed e m
   | inr nay ↦ g (names_of items) q.formula q.claimed e ((q.means e).1 (a, λ c. nay ((p.means e).1 (a, c))))
 ]
 
 pub never : (items : List Item) (s t : List ℕ) (n : ℕ) (v : _) → Puts (names_of items) (HoldsOf items) s → Puts (names_of items) (FailsOf items) t →
-    FoundOf s n Nothing → FoundOf t n (Shortest v) → Answers items n Never
+    FoundOf s n Nothing → FoundOf t n (First v) → Answers items Never
 never items s t n v p q f g =
     let row = first_row items Failing t n v q g in
     (λ e a c. f (names_of items) p.formula p.claimed e ((p.means e).1 (a, c)), shown v.items, row.holds.0)
 
 pub both : (items : List Item) (s t : List ℕ) (n : ℕ) (u v : _) → Puts (names_of items) (HoldsOf items) s → Puts (names_of items) (FailsOf items) t →
-    FoundOf s n (Shortest u) → FoundOf t n (Shortest v) → Answers items n (Both u v)
+    FoundOf s n (First u) → FoundOf t n (First v) → Answers items (Both u v)
 both items s t n u v p q f g = (first_row items Holding s n u p f, first_row items Failing t n v q g)
 
-pub large : (items : List Item) (P : Env → Type 0) (s : List ℕ) (n : ℕ) → Puts (names_of items) P s → FoundOf s n Many → Large items n P
+pub large : (items : List Item) (P : Env → Type 0) (s : List ℕ) (n : ℕ) → Puts (names_of items) P s → FoundOf s n TooLarge → Large items n P
 large items P s n p f = (s, p, f (names_of items) p.formula p.claimed)

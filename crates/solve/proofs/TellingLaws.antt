@@ -5,9 +5,9 @@ use Rattle.words.specs.Words.{Word, Columns}
 use Rattle.formulas.specs.declared.name.Name.{Name}
 use Rattle.formulas.specs.declared.formula.Formula.{Formula}
 use Rattle.formula_claims.specs.Claimed.{Claimed, whole, sets_needed}
-use Rattle.solve.specs.declared.first.Found.{Found}
-use Rattle.solve.specs.declared.first.Found.TheVariants.{Shortest, Nothing, Many, Unjudged}
-use Rattle.solve.specs.Finding.{Finds}
+use Rattle.first_word.specs.declared.first_word.Found.{Found}
+use Rattle.first_word.specs.declared.first_word.Found.TheVariants.{Nothing, First, TooLarge}
+use Rattle.first_word.specs.Finding.{Finds}
 use Rattle.solve.specs.Telling.{Tells}
 
 pub columns_wider : (j k : ℕ) (w : Word) → j ≤ k → Columns j w → Columns k w
@@ -15,11 +15,10 @@ columns_wider j k [] le h = tt
 columns_wider j k (c ∷ w) le h = let p : 2 ^ j ≤ 2 ^ k = pow_mono le in (omega (arith, h), columns_wider j k w le h.1)
 
 pub tells : (s : List ℕ) (n : ℕ) (found : Found) → Finds s n found → (l : List Name) (a : Formula) → Claimed l a s → Tells l a n found
-tells s n (Shortest w) f l a c =
+tells s n (First w) f l a c =
     let first = (f (sets_needed l a) (whole l a) c.claim).1 in
     ((c.says w.items).0 first.holds, λ u columns less h. first.first u columns less ((c.says u).1 h))
 tells s n Nothing f l a c =
     λ e m. let word = c.chosen e in
     (f (sets_needed l a) (whole l a) c.claim).1 word.0 (columns_wider (length l) (sets_needed l a) word.0 (omega arith) word.1.columns) (word.2.1 m)
-tells s n Many f l a c = f (sets_needed l a) (whole l a) c.claim
-tells s n Unjudged f l a c = tt
+tells s n TooLarge f l a c = f (sets_needed l a) (whole l a) c.claim

@@ -6,7 +6,9 @@ use Rattle.claims.specs.Claims.{Only}
 use Rattle.claims.specs.Sizes.{Fits}
 use Rattle.formulas.specs.Sets.{lowest}
 use Rattle.formulas.specs.Meaning.{Env}
-use Rattle.formula_claims.specs.Claimed.{whole, sets_needed}
+use Rattle.formulas.specs.declared.name.Name.{Name as Numbered}
+use Rattle.formulas.specs.declared.formula.Formula.{Formula}
+use Rattle.formula_claims.specs.Claimed.{Claimed, whole, sets_needed}
 use Rattle.trees.specs.declared.tree.Name.{Name}
 use Rattle.trees.specs.declared.tree.Sort.{Sort}
 use Rattle.trees.specs.declared.tree.Sort.TheVariants.{Place, Set}
@@ -41,9 +43,14 @@ pub record FirstRow (l : List (Name × Sort)) (P : Env → Type 0) (w : Word) : 
 abbrev pub Large : List Item → ℕ → (Env → Type 0) → Type 0
 Large items n P = (bytes : List ℕ) × (p : Puts (names_of items) P bytes) × (Fits (sets_needed (names_of items) p.formula) n (whole (names_of items) p.formula) → ⊥)
 
-abbrev pub Answers : List Item → ℕ → Answer → Type 0
-Answers items n Always = ((e : Env) → (text items e).assumed → (text items e).claimed) × (e : Env) × (text items e).assumed
-Answers items n Unmet = (e : Env) → (text items e).assumed → ⊥
-Answers items n Never = ((e : Env) → (text items e).assumed → (text items e).claimed → ⊥) × (e : Env) × (text items e).assumed
-Answers items n (Both u v) = FirstRow (declared items) (HoldsOf items) u.items × FirstRow (declared items) (FailsOf items) v.items
-Answers items n TooLarge = Large items n (HoldsOf items) ⊎ Large items n (FailsOf items)
+-- more than n classes have to be told apart at a formula's claim, about some list of its names
+abbrev pub IsLarge : ℕ → Formula → Type 0
+IsLarge n a = (l : List Numbered) × (bytes : List ℕ) × Claimed l a bytes × (Fits (sets_needed l a) n (whole l a) → ⊥)
+
+-- an answer is true of the text
+abbrev pub Answers : List Item → Answer → Type 0
+Answers items Always = ((e : Env) → (text items e).assumed → (text items e).claimed) × (e : Env) × (text items e).assumed
+Answers items Unmet = (e : Env) → (text items e).assumed → ⊥
+Answers items Never = ((e : Env) → (text items e).assumed → (text items e).claimed → ⊥) × (e : Env) × (text items e).assumed
+Answers items (Both u v) = FirstRow (declared items) (HoldsOf items) u.items × FirstRow (declared items) (FailsOf items) v.items
+Answers items (TooLarge n) = Large items n (HoldsOf items) ⊎ Large items n (FailsOf items)

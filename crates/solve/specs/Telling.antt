@@ -9,8 +9,8 @@ use Rattle.formulas.specs.Meaning.{Env, Meaning}
 use Rattle.translating.specs.Settles.{Singles, env_of}
 use Rattle.formula_claims.specs.Listed.{listed}
 use Rattle.formula_claims.specs.Claimed.{whole, sets_needed}
-use Rattle.solve.specs.declared.first.Found.{Found}
-use Rattle.solve.specs.declared.first.Found.TheVariants.{Shortest, Nothing, Many, Unjudged}
+use Rattle.first_word.specs.declared.first_word.Found.{Found}
+use Rattle.first_word.specs.declared.first_word.Found.TheVariants.{Nothing, First, TooLarge}
 
 -- the places of a word are places, and the formula holds of the places and sets that it gives the names
 abbrev pub HoldsOf : List Name → Formula → Word → Type 0
@@ -18,7 +18,6 @@ HoldsOf l a w = Singles (listed l) l (sets w) × Meaning a (env_of (listed l) w)
 
 -- the first word of which the formula holds; that it holds of no choice of places and sets; that more than n classes of rows are told apart
 abbrev pub Tells : List Name → Formula → ℕ → Found → Type 0
-Tells l a n (Shortest w) = HoldsOf l a w.items × ((u : Word) → Columns (sets_needed l a) u → Less u w.items → HoldsOf l a u → ⊥)
+Tells l a n (First w) = HoldsOf l a w.items × ((u : Word) → Columns (sets_needed l a) u → Less u w.items → HoldsOf l a u → ⊥)
 Tells l a n Nothing = (e : Env) → Meaning a e → ⊥
-Tells l a n Many = Fits (sets_needed l a) n (whole l a) → ⊥
-Tells l a n Unjudged = Unit {0}
+Tells l a n TooLarge = Fits (sets_needed l a) n (whole l a) → ⊥

@@ -1,42 +1,60 @@
 // The answer to a text that is read.
-ghost use Rattle.std.specs.Prelude.{IfOk};
+ghost use Rattle.std.specs.Prelude.{◌+◌, ◌*◌, ◌≤◌, IfOk};
+ghost use Rattle.room.specs.Floor.{floor_words};
 ghost use Rattle.solve.specs.Answers.{Answers};
 
-use crate::first::{Found, first_row};
-use crate::question::question_of;
+use crate::first::first_row;
+use crate::question::{Question, question_of};
 use crate::stop::Stop;
+use first_word::first_word::Found;
+use room::largest::largest;
 use std::alloc::Global;
 use trees::tree::Item;
 
-#[derive(Drop)]
+/// Of which places and sets a text's claim holds, of those that meet its assumptions. A word has a column for each place, in which bit x says whether the x-th declared name has the place.
+#[derive(Debug, Drop)]
 pub enum Answer {
-    // the claim holds of all places and sets that meet the assumptions, and some do
+    /// of all of them, and there are some
     Always,
-    // nothing meets the assumptions
+    /// nothing meets the assumptions
     Unmet,
-    // some places and sets meet the assumptions, and the claim holds of none that do
+    /// of none of them, and there are some
     Never,
-    // the first row of which it holds, and the first of which it does not
+    /// the first word of which it holds, and the first of which it does not
     Both(Vec<u32>, Vec<u32>),
-    // more classes than allowed have to be told apart
-    TooLarge,
+    /// it was not found out, since more classes than so many would have to be told apart
+    TooLarge(u32),
 }
 
-// What is answered about a text, with at most so many classes told apart.
-pub fn answered(heap: Global, items: &[Item], most: u32) -> Result<Answer, Stop>
-    ensures { IfOk result (λ a. Answers items.now most a) }
+/// How many classes may be told apart: as many as are wanted, or as many as both claims fit with. Fails where more are wanted than fit.
+pub fn allowed(question: &Question, wanted: Option<u32>) -> Result<u32, Stop>
+    ensures holds { IfOk result (λ n. floor_words question.now.holds.items n + 4 * n ≤ 1048576) }
+    ensures fails { IfOk result (λ n. floor_words question.now.fails.items n + 4 * n ≤ 1048576) }
 {
-    let question = question_of(heap, items)?;
-    let holds = first_row(heap, &question.holds, most)?;
-    let fails = first_row(heap, &question.fails, most)?;
+    let most = largest(&question.fails, largest(&question.holds, u32::MAX));
+    let n = wanted.unwrap_or(most);
+    if n <= most {
+        Ok(n)
+    } else {
+        Err(Stop::Most(most))
+    }
+}
+
+/// The answer to a text, with at most so many classes told apart as are wanted, or as there is memory for. Fails where the text says nothing, where its claim takes too many bytes or sets, where more classes are wanted than there is memory for, and for memory.
+pub fn answered(alloc: Global, items: &[Item], wanted: Option<u32>) -> Result<Answer, Stop>
+    ensures { IfOk result (λ a. Answers items.now a) }
+{
+    let question = question_of(alloc, items)?;
+    let n = allowed(&question, wanted)?;
+    let holds = first_row(alloc, &question.holds, n)?;
+    let fails = first_row(alloc, &question.fails, n)?;
     match (holds, fails) {
-        (Found::Shortest(first), Found::Shortest(second)) => Ok(Answer::Both(first, second)),
-        (Found::Shortest(_), Found::Nothing) => Ok(Answer::Always),
+        (Found::First(first), Found::First(second)) => Ok(Answer::Both(first, second)),
+        (Found::First(_), Found::Nothing) => Ok(Answer::Always),
         (Found::Nothing, Found::Nothing) => Ok(Answer::Unmet),
-        (Found::Nothing, Found::Shortest(_)) => Ok(Answer::Never),
-        (Found::Many, _) => Ok(Answer::TooLarge),
-        (Found::Shortest(_), Found::Many) => Ok(Answer::TooLarge),
-        (Found::Nothing, Found::Many) => Ok(Answer::TooLarge),
-        _ => Err(Stop::Most),
+        (Found::Nothing, Found::First(_)) => Ok(Answer::Never),
+        (Found::TooLarge, _) => Ok(Answer::TooLarge(n)),
+        (Found::First(_), Found::TooLarge) => Ok(Answer::TooLarge(n)),
+        (Found::Nothing, Found::TooLarge) => Ok(Answer::TooLarge(n)),
     }
 }

@@ -1,5 +1,6 @@
 // What is asked of the judge about a text: the claim under the assumptions, and its opposite under them.
 ghost use Rattle.std.specs.Prelude.{◌≡◌, ℕ, ◌+◌, ◌++◌, ◌<◌, ◌^◌, length, ◌↔◌, IfOk, OnOk};
+ghost use Rattle.claims.specs.Rows.{IsClaim};
 ghost use Rattle.formulas.specs.Meaning.{Env, Meaning};
 ghost use Rattle.resolve.specs.Says.{either};
 ghost use Rattle.resolve.specs.Asks.{all_hold, free as free_of};
@@ -15,10 +16,13 @@ use formulas::name::Name;
 use std::alloc::{AllocError, Global};
 use trees::tree::{Item, Sort};
 
+/// The bytes of two claims: that the assumptions are met and the claim holds, and that they are met and it does not.
 #[derive(Drop)]
 pub struct Question {
     pub holds: Vec<u8>,
     pub fails: Vec<u8>,
+    pub ghost holds_is: { IsClaim holds.items },
+    pub ghost fails_is: { IsClaim fails.items },
 }
 
 // The declared names from a number on, as formulas number them.
@@ -39,7 +43,7 @@ fn push_names(names: &mut Vec<Name>, free: &[Free<'_>], number: u32) -> Result<(
 }
 
 // Formulas joined by *and*; of none it is *true*.
-fn joined(heap: Global, all: Vec<Stated<'_>>) -> Result<Formula, AllocError>
+fn joined(alloc: Global, all: Vec<Stated<'_>>) -> Result<Formula, AllocError>
     ensures { IfOk result (λ f. (e : Env) → Meaning f e ↔ all_hold all.entry.items e) }
 {
     let mut front = all;
@@ -49,12 +53,12 @@ fn joined(heap: Global, all: Vec<Stated<'_>>) -> Result<Formula, AllocError>
     if front.is_empty() {
         return Ok(last.formula);
     }
-    let whole = joined(heap, front)?;
-    and(heap, whole, last.formula)
+    let whole = joined(alloc, front)?;
+    and(alloc, whole, last.formula)
 }
 
 // That the assumptions hold, and the claims, or not the claims.
-fn posed(heap: Global, asked: Asked<'_>, opposite: bool) -> Result<Formula, AllocError>
+fn posed(alloc: Global, asked: Asked<'_>, opposite: bool) -> Result<Formula, AllocError>
     ensures { IfOk result (λ f. (e : Env) → Meaning f e ↔ (all_hold asked.entry.assumed.items e × either opposite (all_hold asked.entry.claimed.items e → ⊥) (all_hold asked.entry.claimed.items e))) }
 {
     let Asked {
@@ -63,35 +67,36 @@ fn posed(heap: Global, asked: Asked<'_>, opposite: bool) -> Result<Formula, Allo
         claimed,
     } = asked;
     let assumes = !assumed.is_empty();
-    let claimed = joined(heap, claimed)?;
+    let claimed = joined(alloc, claimed)?;
     let said = if opposite {
-        negation(heap, claimed)?
+        negation(alloc, claimed)?
     } else {
         claimed
     };
     if !assumes {
         return Ok(said);
     }
-    let assumed = joined(heap, assumed)?;
-    and(heap, assumed, said)
+    let assumed = joined(alloc, assumed)?;
+    and(alloc, assumed, said)
 }
 
 // The bytes of the claim, or of its opposite, under the assumptions.
-fn bytes(heap: Global, items: &[Item], opposite: bool) -> Result<Vec<u8>, Stop>
+fn bytes(alloc: Global, items: &[Item], opposite: bool) -> Result<Vec<u8>, Stop>
     ensures { IfOk result (λ b. Puts (names_of items.now) (λ e. either opposite (FailsOf items.now e) (HoldsOf items.now e)) b.items) }
 {
-    let asked = ask(heap, items)?;
-    let mut names = Vec::new(heap);
+    let asked = ask(alloc, items)?;
+    let mut names = Vec::new(alloc);
     push_names(&mut names, &asked.free, 0)?;
-    let formula = posed(heap, asked, opposite)?;
-    Ok(claim_bytes(heap, &formula, &names)?)
+    let formula = posed(alloc, asked, opposite)?;
+    Ok(claim_bytes(alloc, &formula, &names)?)
 }
 
-pub fn question_of(heap: Global, items: &[Item]) -> Result<Question, Stop>
+/// What is asked about a text. Fails where it says nothing, where its claim takes too many bytes or sets, and for memory.
+pub fn question_of(alloc: Global, items: &[Item]) -> Result<Question, Stop>
     ensures holds { IfOk result (λ q. Puts (names_of items.now) (HoldsOf items.now) q.holds.items) }
     ensures fails { IfOk result (λ q. Puts (names_of items.now) (FailsOf items.now) q.fails.items) }
 {
-    let holds = bytes(heap, items, false)?;
-    let fails = bytes(heap, items, true)?;
+    let holds = bytes(alloc, items, false)?;
+    let fails = bytes(alloc, items, true)?;
     Ok(Question { holds, fails })
 }

@@ -1,16 +1,17 @@
-// Why a tree gets no answer.
+// Why a text that is read gets no answer.
 use formula_claims::claimed::Refusal;
 use resolve::fault::Fault;
 use std::alloc::{AllocError, AllocFailed};
 
-#[derive(Drop)]
+/// Why a text that is read gets no answer.
+#[derive(Debug, Drop)]
 pub enum Stop {
     // it says nothing
     Sense(Fault),
     // it says too much for a claim
     Claim(Refusal),
-    // so many classes need more memory than there is
-    Most,
+    // more classes are wanted than there is memory for: the most that fit
+    Most(u32),
     Memory,
 }
 

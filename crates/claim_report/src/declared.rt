@@ -1,0 +1,51 @@
+// What a text declares and assumes.
+ghost use Rattle.std.specs.Prelude.{◌≡◌, ◌++◌, map, string_bytes, IfOk, OnOk};
+ghost use Rattle.resolve.specs.Asks.{declared};
+
+use crate::told::Subject;
+use std::alloc::{AllocError, Global};
+use trees::tree::{Item, Name, Sort};
+
+// The names behind those that are there.
+fn push_names<'t>(all: &mut Vec<&'t str>, names: &'t [Name]) -> Result<(), AllocError>
+    ensures { OnOk result (map (λ n. n.now) all.new.items ≡ map (λ n. n.now) all.old.items ++ map (λ x. string_bytes x.text) names.now) }
+{
+    let mut rest = names;
+    while let [name, more @ ..] = rest {
+        all.push(name.text.as_str())?;
+        rest = more;
+    }
+    Ok(())
+}
+
+/// The declared names, in the order of declaration. Fails for memory.
+pub fn names_of<'t>(alloc: Global, items: &'t [Item]) -> Result<Vec<&'t str>, AllocError>
+    ensures { IfOk result (λ names. map (λ n. n.now) names.items ≡ map (λ d. string_bytes d.0.text) (declared items.now)) }
+{
+    let mut all = Vec::new(alloc);
+    let mut rest = items;
+    while let [item, more @ ..] = rest {
+        if let Item::Free(_, names) = item {
+            push_names(&mut all, names)?;
+        }
+        rest = more;
+    }
+    Ok(all)
+}
+
+// Whether names of a sort are declared.
+fn declares(items: &[Item], wanted: Sort) -> bool {
+    items.iter().any(|item| match item {
+        Item::Free(sort, _) => *sort == wanted,
+        _ => false,
+    })
+}
+
+/// What the text's claim is about.
+pub fn subject_of(items: &[Item]) -> Subject {
+    Subject {
+        places: declares(items, Sort::Place),
+        sets: declares(items, Sort::Set),
+        assumes: items.iter().any(|item| matches!(item, Item::Assert(_))),
+    }
+}

@@ -1,0 +1,110 @@
+// A text, and what is reported of it.
+use crate::declared::{names_of, subject_of};
+use crate::stop::Stop;
+use crate::told::{InColumns, Told};
+use display::hex::Hex;
+use solve::answer::{Answer, allowed, answered};
+use solve::narrowing::narrowest;
+use solve::question::question_of;
+use std::alloc::{AllocError, Global};
+use syntax::parse::read;
+use trees::position::position_of;
+use trees::shown::shown;
+use trees::tree::Item;
+
+/// How an answer is shown.
+#[derive(Clone, Copy, Debug, PartialEq, Eq)]
+pub enum Form {
+    Rows,
+    Columns,
+    /// what the line tool reads, and no answer
+    Bytes,
+}
+
+/// The name of a text, for messages, and its bytes.
+#[derive(Clone, Copy)]
+pub struct Source<'a> {
+    pub file: &'a str,
+    pub text: &'a [u8],
+}
+
+// The lines that the line tool reads: about the claim, and about its opposite.
+fn lines(alloc: Global, items: &[Item], wanted: Option<u32>) -> Result<String, Stop> {
+    let question = question_of(alloc, items)?;
+    let most = allowed(&question, wanted)?;
+    let holds = Hex(&question.holds);
+    let fails = Hex(&question.fails);
+    Ok(format!(in alloc; "{most} {holds}\n{most} {fails}\n")?)
+}
+
+// Where more than so many classes are told apart.
+fn place(alloc: Global, source: Source<'_>, items: &[Item], most: u32) -> Result<String, Stop> {
+    let file = source.file;
+    let Some(span) = narrowest(alloc, items, most)? else {
+        return Ok(format!(in alloc; " at {file}, all formulas together\n")?);
+    };
+    let place = position_of(source.text, span.start);
+    let line = place.line;
+    let column = place.column;
+    let beside = shown(
+        alloc,
+        file,
+        source.text,
+        span,
+        "here the innermost part begins that is too large by itself",
+    )?;
+    Ok(format!(in alloc; " at {file}:{line}:{column}\n{beside}")?)
+}
+
+// The answer of a text that is read, in words or in one line.
+fn answer(
+    alloc: Global,
+    source: Source<'_>,
+    items: &[Item],
+    wanted: Option<u32>,
+    form: Form,
+) -> Result<String, Stop> {
+    let answer = answered(alloc, items, wanted)?;
+    let place = match answer {
+        Answer::TooLarge(most) => place(alloc, source, items, most)?,
+        _ => String::new(alloc),
+    };
+    if form == Form::Columns {
+        let told = InColumns(&answer);
+        return Ok(format!(in alloc; "{told}{place}")?);
+    }
+    let names = names_of(alloc, items)?;
+    let told = Told {
+        subject: subject_of(items),
+        names: &names,
+        answer: &answer,
+    };
+    Ok(format!(in alloc; "{told}{place}")?)
+}
+
+fn reported(
+    alloc: Global,
+    source: Source<'_>,
+    wanted: Option<u32>,
+    form: Form,
+) -> Result<String, Stop> {
+    let items = read(alloc, source.text)?;
+    if form == Form::Bytes {
+        lines(alloc, &items, wanted)
+    } else {
+        answer(alloc, source, &items, wanted, form)
+    }
+}
+
+/// What is reported of a text, with at most so many classes told apart as are wanted or as there is memory for: the answer, or the message that stands in its place. Fails for memory.
+pub fn report(
+    alloc: Global,
+    source: Source<'_>,
+    wanted: Option<u32>,
+    form: Form,
+) -> Result<Result<String, String>, AllocError> {
+    match reported(alloc, source, wanted, form) {
+        Ok(words) => Ok(Ok(words)),
+        Err(stop) => Ok(Err(stop.message(alloc, source.file, source.text)?)),
+    }
+}

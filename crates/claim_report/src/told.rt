@@ -1,0 +1,115 @@
+// What an answer is, in words.
+ghost use Rattle.std.specs.Prelude.{Some, map, codes};
+ghost use Rattle.claim_report.specs.Told.{subject_of, word_of, told_of, columns_told};
+
+use display::columns::Columns;
+use display::marks::Marks;
+use solve::answer::Answer;
+use std::fmt;
+
+/// What a text's claim is about: whether places and whether sets are declared, and whether something is assumed of them.
+#[derive(Clone, Copy, Debug, PartialEq, Eq)]
+pub struct Subject {
+    pub places: bool,
+    pub sets: bool,
+    pub assumes: bool,
+}
+
+impl fmt::Display for Subject {
+    ghost output = { λ subject. Some (subject_of subject) };
+
+    fn fmt<W: fmt::Write>(&self, f: &mut fmt::Formatter<W>) -> fmt::Result {
+        let kind = match (self.places, self.sets) {
+            (true, true) => "places and sets",
+            (true, false) => "places",
+            _ => "sets",
+        };
+        let condition = if self.assumes {
+            " that meet the assumptions"
+        } else {
+            ""
+        };
+        write!(f, "{kind}{condition}")
+    }
+}
+
+/// A word as rows of marks, or that it has no places.
+#[derive(Clone, Copy, Debug)]
+struct Word<'a, 't> {
+    names: &'a [&'t str],
+    word: &'a [u32],
+}
+
+impl fmt::Display for Word<'_, '_> {
+    ghost output = { λ w. Some (word_of (map (λ name. name.now) w.names.now) w.word.now) };
+
+    fn fmt<W: fmt::Write>(&self, f: &mut fmt::Formatter<W>) -> fmt::Result {
+        let marks = Marks {
+            names: self.names,
+            word: self.word,
+        };
+        let count = self.word.len();
+        match count {
+            0 => write!(f, " of: nothing anywhere (0 places).\n"),
+            1 => write!(f, ", of 1 place:\n{marks}"),
+            _ => write!(f, ", of {count} places:\n{marks}"),
+        }
+    }
+}
+
+/// An answer in words, with first words as rows of marks. Where it is too large that is all that is said.
+#[derive(Clone, Copy, Debug)]
+pub struct Told<'a, 't> {
+    pub subject: Subject,
+    pub names: &'a [&'t str],
+    pub answer: &'a Answer,
+}
+
+impl fmt::Display for Told<'_, '_> {
+    ghost output = { λ t. Some (told_of t.subject (map (λ name. name.now) t.names.now) t.answer.now) };
+
+    fn fmt<W: fmt::Write>(&self, f: &mut fmt::Formatter<W>) -> fmt::Result {
+        let subject = self.subject;
+        match self.answer {
+            Answer::Always if self.names.is_empty() => write!(f, "always\nIt holds.\n"),
+            Answer::Always => write!(f, "always\nIt holds of all {subject}.\n"),
+            Answer::Unmet => write!(f, "always\nNothing meets the assumptions.\n"),
+            Answer::Never if self.names.is_empty() => write!(f, "never\nIt does not hold.\n"),
+            Answer::Never => write!(f, "never\nIt holds of no {subject}.\n"),
+            Answer::Both(first, second) => {
+                let a = first.len();
+                let b = second.len();
+                let first = Word { names: self.names, word: first };
+                let second = Word { names: self.names, word: second };
+                write!(
+                    f,
+                    "both {a} {b}\nIt holds of some {subject} and not of others. First{first}It does not hold first{second}"
+                )
+            }
+            Answer::TooLarge(n) => write!(f, "too large: more than {n} classes are told apart"),
+        }
+    }
+}
+
+/// An answer in one line, words as numbers.
+#[derive(Clone, Copy, Debug)]
+pub struct InColumns<'a>(pub &'a Answer);
+
+impl fmt::Display for InColumns<'_> {
+    ghost output = { λ t. Some (columns_told t.0.now) };
+
+    fn fmt<W: fmt::Write>(&self, f: &mut fmt::Formatter<W>) -> fmt::Result {
+        match self.0 {
+            Answer::Always | Answer::Unmet => write!(f, "always\n"),
+            Answer::Never => write!(f, "never\n"),
+            Answer::Both(first, second) => {
+                let a = first.len();
+                let b = second.len();
+                let first = Columns(first);
+                let second = Columns(second);
+                write!(f, "both {a} {b} | {first} | {second}\n")
+            }
+            Answer::TooLarge(n) => write!(f, "too large: more than {n} classes are told apart"),
+        }
+    }
+}

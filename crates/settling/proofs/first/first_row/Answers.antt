@@ -1,5 +1,0 @@
-use Rattle.settling.proofs.TellingLaws.{tells}
-use Rattle.settling.proofs.first.first_row.Goals as goal
-
-pub returns : goal.returns
-returns c = tells _ _ _ c.in_ok-found.ensures

@@ -1,3 +1,0 @@
--- What is found of a claim.
-pub mod Finding
-pub mod Telling
