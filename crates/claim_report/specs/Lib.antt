@@ -1,2 +1,4 @@
 -- What is printed of an answer.
 pub mod Told
+pub mod Subjects
+pub mod Reported

@@ -1,6 +1,7 @@
 // What a text declares and assumes.
 ghost use Rattle.std.specs.Prelude.{◌≡◌, ◌++◌, map, string_bytes, IfOk, OnOk};
 ghost use Rattle.resolve.specs.Asks.{declared};
+ghost use Rattle.claim_report.specs.Subjects.{nothing, subject_from};
 
 use crate::told::Subject;
 use std::alloc::{AllocError, Global};
@@ -33,19 +34,24 @@ pub fn names_of<'t>(alloc: Global, items: &'t [Item]) -> Result<Vec<&'t str>, Al
     Ok(all)
 }
 
-// Whether names of a sort are declared.
-fn declares(items: &[Item], wanted: Sort) -> bool {
-    items.iter().any(|item| match item {
-        Item::Free(sort, _) => *sort == wanted,
-        _ => false,
-    })
-}
-
 /// What the text's claim is about.
-pub fn subject_of(items: &[Item]) -> Subject {
-    Subject {
-        places: declares(items, Sort::Place),
-        sets: declares(items, Sort::Set),
-        assumes: items.iter().any(|item| matches!(item, Item::Assert(_))),
+pub fn subject_of(items: &[Item]) -> Subject
+    ensures { result ≡ subject_from nothing items.now }
+{
+    let mut subject = Subject {
+        places: false,
+        sets: false,
+        assumes: false,
+    };
+    let mut rest = items;
+    while let [item, more @ ..] = rest {
+        match item {
+            Item::Free(Sort::Place, _) => subject.places = true,
+            Item::Free(Sort::Set, _) => subject.sets = true,
+            Item::Assert(_) => subject.assumes = true,
+            Item::Predicate(_) | Item::Formula(_) => {}
+        }
+        rest = more;
     }
+    subject
 }

@@ -1,4 +1,7 @@
 // A text, and what is reported of it.
+ghost use Rattle.std.specs.Prelude.{IfOk, string_bytes};
+ghost use Rattle.claim_report.specs.Reported.{Reported};
+
 use crate::declared::{names_of, subject_of};
 use crate::stop::Stop;
 use crate::told::{InColumns, Told};
@@ -12,12 +15,17 @@ use trees::position::position_of;
 use trees::shown::shown;
 use trees::tree::Item;
 
-/// How an answer is shown.
+/// How an answer is shown: in words, with first words as rows of marks, or in one line, words as numbers.
 #[derive(Clone, Copy, Debug, PartialEq, Eq)]
 pub enum Form {
     Rows,
     Columns,
-    /// what the line tool reads, and no answer
+}
+
+/// What is wanted of a text: its answer, or the lines that the line tool reads, and no answer.
+#[derive(Clone, Copy, Debug, PartialEq, Eq)]
+pub enum Wish {
+    Answer(Form),
     Bytes,
 }
 
@@ -29,9 +37,9 @@ pub struct Source<'a> {
 }
 
 // The lines that the line tool reads: about the claim, and about its opposite.
-fn lines(alloc: Global, items: &[Item], wanted: Option<u32>) -> Result<String, Stop> {
+fn lines(alloc: Global, items: &[Item], most: Option<u32>) -> Result<String, Stop> {
     let question = question_of(alloc, items)?;
-    let most = allowed(&question, wanted)?;
+    let most = allowed(&question, most)?;
     let holds = Hex(&question.holds);
     let fails = Hex(&question.fails);
     Ok(format!(in alloc; "{most} {holds}\n{most} {fails}\n")?)
@@ -56,54 +64,59 @@ fn place(alloc: Global, source: Source<'_>, items: &[Item], most: u32) -> Result
     Ok(format!(in alloc; " at {file}:{line}:{column}\n{beside}")?)
 }
 
-// The answer of a text that is read, in words or in one line.
-fn answer(
+// The answer of a text that is read, in words.
+fn answer_of(
     alloc: Global,
     source: Source<'_>,
     items: &[Item],
-    wanted: Option<u32>,
+    most: Option<u32>,
     form: Form,
-) -> Result<String, Stop> {
-    let answer = answered(alloc, items, wanted)?;
+) -> Result<String, Stop>
+    ensures { IfOk result (λ words. Reported form items.now (string_bytes words)) }
+{
+    let answer = answered(alloc, items, most)?;
     let place = match answer {
         Answer::TooLarge(most) => place(alloc, source, items, most)?,
         _ => String::new(alloc),
     };
-    if form == Form::Columns {
-        let told = InColumns(&answer);
-        return Ok(format!(in alloc; "{told}{place}")?);
+    match form {
+        Form::Columns => {
+            let told = InColumns(&answer);
+            Ok(format!(in alloc; "{told}{place}")?)
+        }
+        Form::Rows => {
+            let names = names_of(alloc, items)?;
+            let told = Told {
+                subject: subject_of(items),
+                names: &names,
+                answer: &answer,
+            };
+            Ok(format!(in alloc; "{told}{place}")?)
+        }
     }
-    let names = names_of(alloc, items)?;
-    let told = Told {
-        subject: subject_of(items),
-        names: &names,
-        answer: &answer,
-    };
-    Ok(format!(in alloc; "{told}{place}")?)
 }
 
 fn reported(
     alloc: Global,
     source: Source<'_>,
-    wanted: Option<u32>,
-    form: Form,
+    most: Option<u32>,
+    wish: Wish,
 ) -> Result<String, Stop> {
     let items = read(alloc, source.text)?;
-    if form == Form::Bytes {
-        lines(alloc, &items, wanted)
-    } else {
-        answer(alloc, source, &items, wanted, form)
+    match wish {
+        Wish::Bytes => lines(alloc, &items, most),
+        Wish::Answer(form) => answer_of(alloc, source, &items, most, form),
     }
 }
 
-/// What is reported of a text, with at most so many classes told apart as are wanted or as there is memory for: the answer, or the message that stands in its place. Fails for memory.
+/// What is reported of a text, with at most so many classes told apart, or as many as there is memory for: what is wanted, or the message that stands in its place. Fails for memory.
 pub fn report(
     alloc: Global,
     source: Source<'_>,
-    wanted: Option<u32>,
-    form: Form,
+    most: Option<u32>,
+    wish: Wish,
 ) -> Result<Result<String, String>, AllocError> {
-    match reported(alloc, source, wanted, form) {
+    match reported(alloc, source, most, wish) {
         Ok(words) => Ok(Ok(words)),
         Err(stop) => Ok(Err(stop.message(alloc, source.file, source.text)?)),
     }

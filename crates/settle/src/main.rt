@@ -34,7 +34,7 @@ fn settle_file(rt: &HostRuntime, options: &Options<'_>) -> anyhow::Result<ExitCo
         file: if file == "-" { "input" } else { file },
         text: &text,
     };
-    match report(rt.alloc(), source, options.most, options.form)? {
+    match report(rt.alloc(), source, options.most, options.wish)? {
         Ok(words) => {
             print!(rt; "{words}")?;
             Ok(ExitCode::SUCCESS)

@@ -1,5 +1,5 @@
 // The command line of `settle`.
-use claim_report::report::Form;
+use claim_report::report::{Form, Wish};
 use clap::error::Error;
 use clap::{Arg, ArgAction, ArgMatches, Command};
 use std::alloc::Global;
@@ -20,7 +20,7 @@ pub struct Options<'a> {
     /// At most so many classes are told apart at a part of the claim; without it as many as 4 MiB have room for.
     pub most: Option<u32>,
     /// How the answer is shown.
-    pub form: Form,
+    pub wish: Wish,
 }
 
 // The arguments.
@@ -65,16 +65,16 @@ pub fn status_of(error: &Error) -> u8 {
 
 /// The file, and how the answer is wanted.
 pub fn options_of<'a>(matches: &'a ArgMatches<'a>) -> Options<'a> {
-    let form = if matches.get_flag("bytes") {
-        Form::Bytes
+    let wish = if matches.get_flag("bytes") {
+        Wish::Bytes
     } else if matches.get_flag("columns") {
-        Form::Columns
+        Wish::Answer(Form::Columns)
     } else {
-        Form::Rows
+        Wish::Answer(Form::Rows)
     };
     Options {
         file: matches.get_str("FILE").unwrap_or("-"),
         most: matches.get_one::<u32>("most"),
-        form,
+        wish,
     }
 }

@@ -2,7 +2,7 @@
 // A first line `most N` says how many classes may be told apart, `columns` and `bytes` how the answer is shown.
 #![tactic(auto)]
 
-use claim_report::report::{Form, Source, report};
+use claim_report::report::{Form, Source, Wish, report};
 use std::io::{BufRead, BufReader};
 use std::str::from_utf8;
 
@@ -10,7 +10,7 @@ use std::str::from_utf8;
 #[derive(Clone, Copy)]
 struct Wanted {
     most: Option<u32>,
-    form: Form,
+    wish: Wish,
 }
 
 // What a line says of how the text below it is to be settled, if it says something.
@@ -18,11 +18,11 @@ fn setting(line: &[u8], before: Wanted) -> Option<Wanted> {
     match line {
         b"columns" => Some(Wanted {
             most: before.most,
-            form: Form::Columns,
+            wish: Wish::Answer(Form::Columns),
         }),
         b"bytes" => Some(Wanted {
             most: before.most,
-            form: Form::Bytes,
+            wish: Wish::Bytes,
         }),
         [b'm', b'o', b's', b't', b' ', digits @ ..] => {
             let Ok(digits) = from_utf8(digits) else {
@@ -33,7 +33,7 @@ fn setting(line: &[u8], before: Wanted) -> Option<Wanted> {
             };
             Some(Wanted {
                 most: Some(most),
-                form: before.form,
+                wish: before.wish,
             })
         }
         _ => None,
@@ -42,7 +42,7 @@ fn setting(line: &[u8], before: Wanted) -> Option<Wanted> {
 
 fn tell(rt: &HostRuntime, text: &[u8], wanted: Wanted) -> anyhow::Result<()> {
     let source = Source { file: "case", text };
-    match report(rt.alloc(), source, wanted.most, wanted.form)? {
+    match report(rt.alloc(), source, wanted.most, wanted.wish)? {
         Ok(answer) => println!(rt; "{answer}")?,
         Err(message) => println!(rt; "{message}")?,
     }
@@ -51,7 +51,7 @@ fn tell(rt: &HostRuntime, text: &[u8], wanted: Wanted) -> anyhow::Result<()> {
 
 const PLAIN: Wanted = Wanted {
     most: None,
-    form: Form::Rows,
+    wish: Wish::Answer(Form::Rows),
 };
 
 fn run(rt: &HostRuntime) -> anyhow::Result<()> {

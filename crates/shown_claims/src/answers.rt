@@ -1,7 +1,7 @@
 // Answers in one form: `never`, or the columns of the first row.
 use anyhow::bail;
 use rule_check::verdict::Verdict;
-use claim_report::report::{Form, Source, report};
+use claim_report::report::{Form, Source, Wish, report};
 use std::alloc::Global;
 
 /// What is found of a rule of modules of so many bits. A module's column has the row's bit, too.
@@ -74,11 +74,11 @@ pub fn asked_of_settle(alloc: Global, text: &str) -> anyhow::Result<Settled> {
         file: "text",
         text: text.as_bytes(),
     };
-    let lines = match report(alloc, source, None, Form::Bytes)? {
+    let lines = match report(alloc, source, None, Wish::Bytes)? {
         Ok(lines) => lines,
         Err(message) => return Ok(Settled::Refused(message)),
     };
-    match report(alloc, source, None, Form::Columns)? {
+    match report(alloc, source, None, Wish::Answer(Form::Columns))? {
         Ok(answer) => Ok(Settled::Answer(
             first_of(alloc, answer.as_str())?,
             size_of(alloc, lines.as_str())?,

@@ -1,6 +1,5 @@
 // What is asked of the judge about a text: the claim under the assumptions, and its opposite under them.
-ghost use Rattle.std.specs.Prelude.{◌≡◌, ℕ, ◌+◌, ◌++◌, ◌<◌, ◌^◌, length, ◌↔◌, IfOk, OnOk};
-ghost use Rattle.claims.specs.Rows.{IsClaim};
+ghost use Rattle.std.specs.Prelude.{◌≡◌, ℕ, ◌+◌, ◌++◌, ◌<◌, ◌≤◌, ◌^◌, length, ◌↔◌, IfOk, OnOk};
 ghost use Rattle.formulas.specs.Meaning.{Env, Meaning};
 ghost use Rattle.resolve.specs.Says.{either};
 ghost use Rattle.resolve.specs.Asks.{all_hold, free as free_of};
@@ -16,13 +15,13 @@ use formulas::name::Name;
 use std::alloc::{AllocError, Global};
 use trees::tree::{Item, Sort};
 
-/// The bytes of two claims: that the assumptions are met and the claim holds, and that they are met and it does not.
+/// The bytes of two claims, each at most 1,024: that the assumptions are met and the claim holds, and that they are met and it does not.
 #[derive(Drop)]
 pub struct Question {
     pub holds: Vec<u8>,
     pub fails: Vec<u8>,
-    pub ghost holds_is: { IsClaim holds.items },
-    pub ghost fails_is: { IsClaim fails.items },
+    pub ghost holds_short: { length holds.items ≤ 1024 },
+    pub ghost fails_short: { length fails.items ≤ 1024 },
 }
 
 // The declared names from a number on, as formulas number them.
@@ -82,7 +81,8 @@ fn posed(alloc: Global, asked: Asked<'_>, opposite: bool) -> Result<Formula, All
 
 // The bytes of the claim, or of its opposite, under the assumptions.
 fn bytes(alloc: Global, items: &[Item], opposite: bool) -> Result<Vec<u8>, Stop>
-    ensures { IfOk result (λ b. Puts (names_of items.now) (λ e. either opposite (FailsOf items.now e) (HoldsOf items.now e)) b.items) }
+    ensures short { IfOk result (λ b. length b.items ≤ 1024) }
+    ensures puts { IfOk result (λ b. Puts (names_of items.now) (λ e. either opposite (FailsOf items.now e) (HoldsOf items.now e)) b.items) }
 {
     let asked = ask(alloc, items)?;
     let mut names = Vec::new(alloc);

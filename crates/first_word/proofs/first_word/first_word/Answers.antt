@@ -1,4 +1,4 @@
-use Rattle.std.proofs.Common.{◌≡◌, ◌*◌, ◌≤◌, [], List, length, ap, sym, subst, ◌∙◌, arith}
+use Rattle.std.proofs.Common.{◌≡◌, ◌*◌, ◌≤◌, length, sym, subst, arith}
 use Rattle.std.proofs.lemmas.Grind.{common_steps}
 use Rattle.room.specs.Floor.{floor_words}
 use Rattle.lengths.specs.Answer.{First}
@@ -8,7 +8,7 @@ use Rattle.first_word.proofs.first_word.first_word.Goals as goal
 pub returns-in-Always : goal.returns-in-Always
 returns-in-Always c = λ k d claim.
     let says = c.in-Always.ensures.says k d claim in
-    (says.0, subst (First k d) (sym c.new.ensures.items) (first_empty k d says.1.0))
+    (says.0, subst (First k d) (sym c.new.ensures.items) (first_empty k d says.1))
 
 pub returns-in-Both : goal.returns-in-Both
 returns-in-Both c = λ k d claim.

@@ -37,8 +37,8 @@ returns-in-First-TooLarge c =
     let g = subst (λ z. FoundOf z n c.in_ok-fails.fails) c.deref-2.ensures.value c.in_ok-fails.ensures in
     inr (large c.args.items.now (FailsOf c.args.items.now) t n c.in_ok-question.ensures.fails (subst (λ x. FoundOf t n x) c.in-First-TooLarge.is-1 g))
 
-pub returns-in-Nothing-TooLarge : goal.returns-in-Nothing-TooLarge
-returns-in-Nothing-TooLarge c =
+pub returns : goal.returns
+returns c =
     let n = c.in_ok-n.n in
     let t = c.in_ok-question.question.fails.items in
     let g = subst (λ z. FoundOf z n c.in_ok-fails.fails) c.deref-2.ensures.value c.in_ok-fails.ensures in

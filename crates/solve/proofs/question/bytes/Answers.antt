@@ -7,8 +7,8 @@ use Rattle.solve.specs.Questions.{numbered}
 use Rattle.solve.proofs.QuestionLaws.{posed_says}
 use Rattle.solve.proofs.question.bytes.Goals as goal
 
-pub returns : goal.returns
-returns c =
+pub returns-clause-puts : goal.returns-clause-puts
+returns-clause-puts c =
     let asks = c.in_ok-asked.ensures in
     let asked = c.in_ok-asked.asked in
     let names = c.deref-2.ensures.value ∙ c.in_ok-push_names.ensures ∙ ap (λ l. l ++ numbered 0 (free c.deref.result.now)) c.new-names.ensures.items
