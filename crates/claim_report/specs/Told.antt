@@ -1,5 +1,5 @@
 -- What is printed of an answer.
-use Rattle.std.specs.Prelude.{ℕ, suc, zero, Bool, true, false, List, [], ◌∷◌, ◌++◌, length, codes, if◌then◌else◌}
+use Rattle.std.specs.Prelude.{ℕ, ◌==◌, Bool, true, false, List, [], ◌∷◌, ◌++◌, length, codes, if◌then◌else◌}
 use Rattle.std.specs.Fmt.{decimal}
 use Rattle.words.specs.Words.{Word}
 use Rattle.display.specs.Marks.{shown}
@@ -19,9 +19,9 @@ subject_of s = kind_of s.places s.sets ++ (if s.assumes then codes " that meet t
 
 -- a word as rows of marks, or that it has no places
 abbrev pub word_of : List (List ℕ) → Word → List ℕ
-word_of names [] = codes " of: nothing anywhere (0 places).\n"
-word_of names (a ∷ []) = codes ", of 1 place:\n" ++ shown names (a ∷ [])
-word_of names w = codes ", of " ++ (decimal (length w) ++ (codes " places:\n" ++ shown names w))
+word_of names w = if length w == 0 then codes " of: nothing anywhere (0 places).\n" else
+    if length w == 1 then codes ", of 1 place:\n" ++ shown names w else
+    codes ", of " ++ (decimal (length w) ++ (codes " places:\n" ++ shown names w))
 
 -- of no names, of some
 abbrev pub by_names : List (List ℕ) → List ℕ → List ℕ → List ℕ
@@ -31,13 +31,16 @@ by_names (_ ∷ _) none some = some
 abbrev pub too_large : ℕ → List ℕ
 too_large n = codes "too large: more than " ++ (decimal n ++ codes " classes are told apart")
 
+abbrev pub both_of : Subject → List (List ℕ) → Word → Word → List ℕ
+both_of s names u v = codes "both " ++ (decimal (length u) ++ (codes " " ++ (decimal (length v) ++ codes "\n")))
+    ++ (codes "It holds of some " ++ (subject_of s ++ (codes " and not of others. First" ++ word_of names u))
+    ++ (codes "It does not hold first" ++ word_of names v))
+
 abbrev pub told_of : Subject → List (List ℕ) → Answer → List ℕ
 told_of s names Always = by_names names (codes "always\nIt holds.\n") (codes "always\nIt holds of all " ++ (subject_of s ++ codes ".\n"))
 told_of s names Unmet = codes "always\nNothing meets the assumptions.\n"
 told_of s names Never = by_names names (codes "never\nIt does not hold.\n") (codes "never\nIt holds of no " ++ (subject_of s ++ codes ".\n"))
-told_of s names (Both u v) = codes "both " ++ (decimal (length u.items) ++ (codes " " ++ (decimal (length v.items)
-    ++ (codes "\nIt holds of some " ++ (subject_of s ++ (codes " and not of others. First" ++ (word_of names u.items
-    ++ (codes "It does not hold first" ++ word_of names v.items))))))))
+told_of s names (Both u v) = both_of s names u.items v.items
 told_of s names (TooLarge n) = too_large n
 
 -- the same in one line, words as numbers

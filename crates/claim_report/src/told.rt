@@ -1,6 +1,6 @@
 // What an answer is, in words.
 ghost use Rattle.std.specs.Prelude.{Some, map, codes};
-ghost use Rattle.claim_report.specs.Told.{subject_of, word_of, told_of, columns_told};
+ghost use Rattle.claim_report.specs.Told.{subject_of, word_of, both_of, told_of, columns_told};
 
 use display::columns::Columns;
 use display::marks::Marks;
@@ -49,11 +49,43 @@ impl fmt::Display for Word<'_, '_> {
             word: self.word,
         };
         let count = self.word.len();
-        match count {
-            0 => write!(f, " of: nothing anywhere (0 places).\n"),
-            1 => write!(f, ", of 1 place:\n{marks}"),
-            _ => write!(f, ", of {count} places:\n{marks}"),
+        if count == 0 {
+            write!(f, " of: nothing anywhere (0 places).\n")
+        } else if count == 1 {
+            write!(f, ", of 1 place:\n{marks}")
+        } else {
+            write!(f, ", of {count} places:\n{marks}")
         }
+    }
+}
+
+// The two first words of an answer: of which it holds, and of which it does not.
+#[derive(Clone, Copy, Debug)]
+struct Both<'a, 't> {
+    subject: Subject,
+    names: &'a [&'t str],
+    first: &'a [u32],
+    second: &'a [u32],
+}
+
+impl fmt::Display for Both<'_, '_> {
+    ghost output = { λ b. Some (both_of b.subject (map (λ name. name.now) b.names.now) b.first.now b.second.now) };
+
+    fn fmt<W: fmt::Write>(&self, f: &mut fmt::Formatter<W>) -> fmt::Result {
+        let subject = self.subject;
+        let a = self.first.len();
+        let b = self.second.len();
+        let first = Word {
+            names: self.names,
+            word: self.first,
+        };
+        let second = Word {
+            names: self.names,
+            word: self.second,
+        };
+        writeln!(f, "both {a} {b}")?;
+        write!(f, "It holds of some {subject} and not of others. First{first}")?;
+        write!(f, "It does not hold first{second}")
     }
 }
 
@@ -77,14 +109,13 @@ impl fmt::Display for Told<'_, '_> {
             Answer::Never if self.names.is_empty() => write!(f, "never\nIt does not hold.\n"),
             Answer::Never => write!(f, "never\nIt holds of no {subject}.\n"),
             Answer::Both(first, second) => {
-                let a = first.len();
-                let b = second.len();
-                let first = Word { names: self.names, word: first };
-                let second = Word { names: self.names, word: second };
-                write!(
-                    f,
-                    "both {a} {b}\nIt holds of some {subject} and not of others. First{first}It does not hold first{second}"
-                )
+                let both = Both {
+                    subject,
+                    names: self.names,
+                    first,
+                    second,
+                };
+                write!(f, "{both}")
             }
             Answer::TooLarge(n) => write!(f, "too large: more than {n} classes are told apart"),
         }

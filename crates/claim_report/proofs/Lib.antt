@@ -1,0 +1,2 @@
+-- The names that a text declares.
+pub mod DeclaredLaws
