@@ -1,6 +1,8 @@
 // A text, and what is reported of it.
-ghost use Rattle.std.specs.Prelude.{IfOk, string_bytes};
-ghost use Rattle.claim_report.specs.Reported.{Reported};
+ghost use Rattle.std.specs.Prelude.{◌≡◌, IfOk, string_bytes};
+ghost use Rattle.claim_report.specs.Told.{columns_told};
+ghost use Rattle.claim_report.specs.Reported.{Reported, told};
+ghost use Rattle.claim_report.specs.declared.report.Form.TheVariants.{Rows};
 
 use crate::declared::{names_of, subject_of};
 use crate::stop::Stop;
@@ -64,7 +66,28 @@ fn place(alloc: Global, source: Source<'_>, items: &[Item], most: u32) -> Result
     Ok(format!(in alloc; " at {file}:{line}:{column}\n{beside}")?)
 }
 
-// The answer of a text that is read, in words.
+// An answer in one line, words as numbers.
+fn in_columns(alloc: Global, answer: &Answer) -> Result<String, AllocError>
+    ensures { IfOk result (λ words. string_bytes words ≡ columns_told answer.now) }
+{
+    let told = InColumns(answer);
+    format!(in alloc; "{told}")
+}
+
+// An answer in words, with first words as rows of marks.
+fn in_words(alloc: Global, items: &[Item], answer: &Answer) -> Result<String, AllocError>
+    ensures { IfOk result (λ words. string_bytes words ≡ told Rows items.now answer.now) }
+{
+    let names = names_of(alloc, items)?;
+    let told = Told {
+        subject: subject_of(items),
+        names: &names,
+        answer,
+    };
+    format!(in alloc; "{told}")
+}
+
+// The answer of a text that is read.
 fn answer_of(
     alloc: Global,
     source: Source<'_>,
@@ -75,25 +98,15 @@ fn answer_of(
     ensures { IfOk result (λ words. Reported form items.now (string_bytes words)) }
 {
     let answer = answered(alloc, items, most)?;
-    let place = match answer {
-        Answer::TooLarge(most) => place(alloc, source, items, most)?,
-        _ => String::new(alloc),
+    let mut words = match form {
+        Form::Columns => in_columns(alloc, &answer)?,
+        Form::Rows => in_words(alloc, items, &answer)?,
     };
-    match form {
-        Form::Columns => {
-            let told = InColumns(&answer);
-            Ok(format!(in alloc; "{told}{place}")?)
-        }
-        Form::Rows => {
-            let names = names_of(alloc, items)?;
-            let told = Told {
-                subject: subject_of(items),
-                names: &names,
-                answer: &answer,
-            };
-            Ok(format!(in alloc; "{told}{place}")?)
-        }
+    if let Answer::TooLarge(most) = answer {
+        let place = place(alloc, source, items, most)?;
+        words.push_str(place.as_str())?;
     }
+    Ok(words)
 }
 
 fn reported(
