@@ -1,0 +1,4 @@
+-- Lemmas on what is printed.
+mod HexLaws
+mod RulerLaws
+mod MarksLaws

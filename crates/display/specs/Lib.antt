@@ -1,0 +1,5 @@
+-- What is printed: words as rows of marks under a ruler, words as numbers, bytes in hex digits.
+pub mod Hex
+pub mod Columns
+pub mod Ruler
+pub mod Marks

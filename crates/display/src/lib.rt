@@ -1,0 +1,9 @@
+// What programs print, as types with `Display`: a word as rows of marks under a ruler, a word as numbers, bytes in hex digits. Nothing here allocates.
+#![tactic(auto)]
+
+mod blanks;
+pub mod columns;
+pub mod hex;
+pub mod marks;
+mod row;
+mod ruler;

@@ -1,0 +1,85 @@
+// Words as rows of marks: a row for each name, a sign for each place, under a ruler. Long words are wrapped.
+ghost use Rattle.std.specs.Prelude.{◌≡◌, ◌+◌, ◌^◌, ◌<◌, ◌≤◌, length, Some, map};
+ghost use Rattle.display.specs.Marks.{block_of, longest, shown};
+
+use crate::blanks::Blanks;
+use crate::row::Row;
+use crate::ruler::{Tens, Units};
+use std::fmt;
+
+// How many places stand on a line: a multiple of ten, so that each line's ruler begins with one.
+const WIDTH: usize = 60;
+
+/// A word that prints as rows of marks: for each name the marks of its set, whose number is the name's index (`#` for a place that the set has, else `.`),
+/// with a ruler above them that numbers the places from 0 on. At most 60 places stand on a line. A word with no columns prints nothing.
+#[derive(Clone, Copy, Debug)]
+pub struct Marks<'a, 't> {
+    pub names: &'a [&'t str],
+    pub word: &'a [u32],
+}
+
+// The places of a word that stand on a line, and the first of them. A word of more than ten places has its tens numbered.
+#[derive(Clone, Copy)]
+struct Block<'a, 't> {
+    names: &'a [&'t str],
+    columns: &'a [u32],
+    from: usize,
+    tens: bool,
+    ghost some: { 0 < length columns.now },
+    ghost in_range: { from + length columns.now < 2 ^ 64 },
+}
+
+// The length of the longest name.
+#[tactic(auto, using(std::proofs::lemmas::List::Folds::max_of_map))]
+fn longest(names: &[&str]) -> usize
+    ensures { result ≡ longest (map (λ name. name.now) names.now) }
+{
+    names.iter().map(|name| name.len()).max().unwrap_or(0)
+}
+
+impl fmt::Display for Block<'_, '_> {
+    ghost output = { λ block. Some (block_of (map (λ name. name.now) block.names.now) block.columns.now block.from block.tens) };
+
+    fn fmt<W: fmt::Write>(&self, f: &mut fmt::Formatter<W>) -> fmt::Result {
+        let width = longest(self.names);
+        let count = self.columns.len();
+        if self.tens {
+            let tens = Tens {
+                width,
+                from: self.from,
+                before: (count - 1) / 10,
+            };
+            write!(f, "{tens}")?;
+        }
+        let units = Units { width, count };
+        write!(f, "{units}")?;
+        for (x, name) in self.names.iter().enumerate() {
+            let gap = Blanks(width - name.len());
+            let row = Row {
+                columns: self.columns,
+                x,
+            };
+            writeln!(f, "    {name}{gap} {row}")?;
+        }
+        Ok(())
+    }
+}
+
+impl fmt::Display for Marks<'_, '_> {
+    ghost output = { λ marks. Some (shown (map (λ name. name.now) marks.names.now) marks.word.now) };
+
+    fn fmt<W: fmt::Write>(&self, f: &mut fmt::Formatter<W>) -> fmt::Result {
+        let places = self.word.len();
+        for k in 0..places.div_ceil(WIDTH) {
+            let from = WIDTH * k;
+            let block = Block {
+                names: self.names,
+                columns: &self.word[from..places.min(from + WIDTH)],
+                from,
+                tens: places > 10,
+            };
+            write!(f, "{block}")?;
+        }
+        Ok(())
+    }
+}

@@ -1,0 +1,52 @@
+// The ruler above rows of marks: the numbers of every tenth place, and below them the last digit of each place's number.
+ghost use Rattle.std.specs.Prelude.{◌+◌, ◌*◌, ◌^◌, ◌<◌, Some};
+ghost use Rattle.display.specs.Ruler.{tens_line, units_line};
+
+use crate::blanks::Blanks;
+use std::fmt;
+
+/// The numbers of every tenth of at least one place, from place `from` on, each above its place, behind a margin as wide as names of up to `width` signs take. Before the last number there are
+/// `before`, each with blanks up to ten signs.
+#[derive(Clone, Copy)]
+pub struct Tens {
+    pub width: usize,
+    pub from: usize,
+    pub before: usize,
+    ghost in_range: { from + 10 * before < 2 ^ 64 },
+}
+
+impl fmt::Display for Tens {
+    ghost output = { λ tens. Some (tens_line tens.width tens.from tens.before) };
+
+    fn fmt<W: fmt::Write>(&self, f: &mut fmt::Formatter<W>) -> fmt::Result {
+        let blanks = Blanks(self.width);
+        write!(f, "    {blanks} ")?;
+        for k in 0..self.before {
+            let place = self.from + 10 * k;
+            write!(f, "{place:<10}")?;
+        }
+        let last = self.from + 10 * self.before;
+        writeln!(f, "{last}")
+    }
+}
+
+/// The last digits of the numbers of so many places, the first of which is a multiple of ten, behind the same margin.
+#[derive(Clone, Copy)]
+pub struct Units {
+    pub width: usize,
+    pub count: usize,
+}
+
+impl fmt::Display for Units {
+    ghost output = { λ units. Some (units_line units.width units.count) };
+
+    fn fmt<W: fmt::Write>(&self, f: &mut fmt::Formatter<W>) -> fmt::Result {
+        let blanks = Blanks(self.width);
+        write!(f, "    {blanks} ")?;
+        for place in 0..self.count {
+            let digit = place % 10;
+            write!(f, "{digit}")?;
+        }
+        writeln!(f)
+    }
+}
