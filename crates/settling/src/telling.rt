@@ -1,8 +1,8 @@
 // What an answer is, in words.
 use crate::first::Found;
 use crate::question::Question;
+use display::marks::Marks;
 use elaborating::scope::Free;
-use marks::word::put_word;
 use std::alloc::{AllocError, Global};
 use syntax::tree::Sort;
 
@@ -31,7 +31,11 @@ fn put_marks(out: &mut String, free: &[Free<'_>], word: &[u32]) -> Result<(), Al
     for declared in free {
         names.push(declared.name.text.as_str())?;
     }
-    put_word(out, &names, word)
+    let marks = Marks {
+        names: &names,
+        word,
+    };
+    write!(out, "{marks}")
 }
 
 // A word, or that it has no places.
