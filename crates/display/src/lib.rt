@@ -9,3 +9,5 @@ pub mod hex;
 pub mod marks;
 mod row;
 mod ruler;
+#[cfg(test)]
+mod tests;
