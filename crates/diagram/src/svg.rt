@@ -212,7 +212,7 @@ impl fmt::Display for Ruler {
         let bottom = layout.first_top() - 3;
         let every = ruler_step(self.modules);
         for place in 0..self.modules {
-            let x = layout.left(place) + layout.square() / 2;
+            let x = layout.middle(place);
             let numbered = place % every == 0;
             let height: u128 = if numbered { 8 } else { 4 };
             let tick = Rect {
@@ -309,12 +309,12 @@ fn bands_of(alloc: Global, layout: &Layout, rows: &[Vec<u32>]) -> Result<Vec<Ban
 
 // The modules of all rows: light squares, on them the bands of the bits that are set, and then the squares' frames.
 #[derive(Clone, Copy)]
-struct Modules<'a> {
-    frames: &'a [Rect],
-    bands: &'a [Bands],
+struct Modules<'f, 'b> {
+    frames: &'f [Rect],
+    bands: &'b [Bands],
 }
 
-impl fmt::Display for Modules<'_> {
+impl fmt::Display for Modules<'_, '_> {
     fn fmt<W: fmt::Write>(&self, f: &mut fmt::Formatter<W>) -> fmt::Result {
         let squares = Group {
             fill: "#f4f4f4",
@@ -341,13 +341,13 @@ impl fmt::Display for Modules<'_> {
 
 // The row or rows with all that stands around them.
 #[derive(Clone, Copy)]
-struct Grid<'a> {
+struct Grid<'h, 'f, 'b> {
     layout: Layout,
-    history: &'a History,
-    modules: Modules<'a>,
+    history: &'h History,
+    modules: Modules<'f, 'b>,
 }
 
-impl fmt::Display for Grid<'_> {
+impl fmt::Display for Grid<'_, '_, '_> {
     fn fmt<W: fmt::Write>(&self, f: &mut fmt::Formatter<W>) -> fmt::Result {
         let layout = self.layout;
         let history = self.history;

@@ -9,11 +9,11 @@ use std::fmt;
 /// A message that prints with its place in a file, `FILE:LINE:COLUMN: message`, and below it the line, if it is text, with a caret under the column. Lines
 /// and columns count from 1; a column is a byte.
 #[derive(Clone, Copy, Debug)]
-pub struct Beside<'a, M> {
-    pub file: &'a str,
+pub struct Beside<'f, 't, M> {
+    pub file: &'f str,
     pub line: usize,
     pub column: usize,
-    pub text: Option<&'a str>,
+    pub text: Option<&'t str>,
     pub message: M,
 }
 
@@ -51,7 +51,7 @@ impl fmt::Display for Excerpt<'_> {
     }
 }
 
-impl<M: fmt::Display> fmt::Display for Beside<'_, M> {
+impl<M: fmt::Display> fmt::Display for Beside<'_, '_, M> {
     ghost output = { λ beside. Some (place_of beside.file.now beside.line beside.column) ++? M.output beside.message
         ++? Some (10 ∷ option_map_or (λ text. excerpt_of text.now beside.column) beside.text []) };
 

@@ -3,6 +3,9 @@
 // A line that is not of that form gets a message with its number, one that would take more than 256 MiB of work memory says so, and the run goes on.
 #![tactic(auto)]
 
+ghost use Rattle.std.specs.Prelude.{Some};
+ghost use Rattle.judge_lines.specs.Answers.{line_of};
+
 use display::columns::Columns;
 use lengths::judge::judge;
 use lengths::judged::Judged;
@@ -32,6 +35,8 @@ struct Answer<'a> {
 }
 
 impl fmt::Display for Answer<'_> {
+    ghost output = { λ answer. Some (line_of answer.judged answer.out.now) };
+
     fn fmt<W: fmt::Write>(&self, f: &mut fmt::Formatter<W>) -> fmt::Result {
         match self.judged {
             Judged::Always => write!(f, "always"),
@@ -44,7 +49,7 @@ impl fmt::Display for Answer<'_> {
                 write!(f, "both {a} {b} | ")?;
                 if a <= self.out.len() && b <= self.out.len() - a {
                     let first = Columns(&self.out[..a]);
-                    let second = Columns(&self.out[a..a + b]);
+                    let second = Columns(&self.out[a..][..b]);
                     write!(f, "{first} | {second}")?;
                 }
                 Ok(())

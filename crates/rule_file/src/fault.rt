@@ -1,4 +1,6 @@
 // What is wrong with a rule file: where it stands, what was expected and what stands there.
+ghost use Rattle.std.specs.Prelude.{◌≡◌};
+
 use crate::token::{Kind, Token};
 use std::alloc::{AllocError, AllocFailed};
 use std::fmt;
@@ -153,8 +155,8 @@ impl fmt::Display for Found<'_> {
 /// A fault in words: what was expected, and what stands there in the text.
 #[derive(Clone, Copy, Debug)]
 pub struct Message<'t> {
-    fault: Fault,
-    text: &'t str,
+    pub fault: Fault,
+    pub text: &'t str,
 }
 
 impl fmt::Display for Message<'_> {
@@ -204,7 +206,10 @@ impl Fault {
     }
 
     /// The fault in words, for the text in which it was found.
-    pub fn message<'t>(&self, text: &'t str) -> Message<'t> {
+    pub fn message<'t>(&self, text: &'t str) -> Message<'t>
+        ensures fault { result.fault ≡ self.now }
+        ensures text { result.text.now ≡ text.now }
+    {
         Message { fault: *self, text }
     }
 }

@@ -60,13 +60,13 @@ pub fn answer_to(
 
 /// An answer that prints as the report has it: what is claimed, what is found, and the rows or the line of the file.
 #[derive(Clone, Copy)]
-pub struct Answered<'a, 's, 't> {
+pub struct Answered<'s, 't, 'u, 'a> {
     pub asked: Asked<'s, 't>,
-    pub subject: &'a Subject<'s>,
+    pub subject: Subject<'u>,
     pub answer: &'a Answer,
 }
 
-impl fmt::Display for Answered<'_, '_, '_> {
+impl fmt::Display for Answered<'_, '_, '_, '_> {
     fn fmt<W: fmt::Write>(&self, f: &mut fmt::Formatter<W>) -> fmt::Result {
         let (file, source) = (self.asked.file, self.asked.source);
         let name = self.subject.name();

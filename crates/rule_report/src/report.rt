@@ -55,7 +55,7 @@ impl Report {
         let answer = answer_to(alloc, asked, subject, question)?;
         let answered = Answered {
             asked,
-            subject,
+            subject: *subject,
             answer: &answer,
         };
         write!(self.text, "{answered}")?;

@@ -33,12 +33,12 @@ pub fn history(
 
 /// Rows that print as rows of marks, a line for each bit; before each row but the first stands its step.
 #[derive(Clone, Copy)]
-pub struct Rows<'a, 't> {
-    pub names: &'a [&'t str],
-    pub history: &'a History,
+pub struct Rows<'n, 't, 'h> {
+    pub names: &'n [&'t str],
+    pub history: &'h History,
 }
 
-impl fmt::Display for Rows<'_, '_> {
+impl fmt::Display for Rows<'_, '_, '_> {
     fn fmt<W: fmt::Write>(&self, f: &mut fmt::Formatter<W>) -> fmt::Result {
         for (t, row) in self.history.rows.iter().enumerate() {
             if t > 0 {

@@ -1,4 +1,7 @@
 // What is wrong with a rule file, and how it is shown: FILE:LINE:COLUMN, what was expected and what stands there, and the line with a caret under the place.
+ghost use Rattle.std.specs.Prelude.{◌≡◌, ◌+◌, ◌≤◌, ◌==◌, length, take, count_by};
+ghost use Rattle.syntax.specs.Position.{column_from};
+
 use display::beside::Beside;
 use rule_file::token::Token;
 use rules::known::Unsound;
@@ -67,8 +70,8 @@ fn found(text: &str, span: Span) -> &str {
 /// A fault in words: what was expected, and what stands there in the text.
 #[derive(Clone, Copy, Debug)]
 pub struct Message<'f, 't> {
-    fault: &'f Fault,
-    text: &'t str,
+    pub fault: &'f Fault,
+    pub text: &'t str,
 }
 
 impl fmt::Display for Message<'_, '_> {
@@ -122,12 +125,12 @@ impl fmt::Display for Message<'_, '_> {
 
 /// A fault with its place: `FILE:LINE:COLUMN: message`, the line and a caret; without a place `FILE: message`.
 #[derive(Clone, Copy, Debug)]
-pub struct Shown<'f, 't> {
-    file: &'f str,
-    message: Message<'f, 't>,
+pub struct Shown<'p, 'f, 't> {
+    pub file: &'p str,
+    pub message: Message<'f, 't>,
 }
 
-impl fmt::Display for Shown<'_, '_> {
+impl fmt::Display for Shown<'_, '_, '_> {
     fn fmt<W: fmt::Write>(&self, f: &mut fmt::Formatter<W>) -> fmt::Result {
         let (file, message) = (self.file, self.message);
         match message.fault.span(message.text) {
@@ -138,12 +141,17 @@ impl fmt::Display for Shown<'_, '_> {
 }
 
 /// The message with its place in a text, which is where the span begins.
-pub fn beside<'a, M: fmt::Display>(
-    file: &'a str,
-    text: &'a str,
+pub fn beside<'f, 't, M: fmt::Display>(
+    file: &'f str,
+    text: &'t str,
     span: Span,
     message: M,
-) -> Beside<'a, M> {
+) -> Beside<'f, 't, M>
+    ensures file { result.file.now ≡ file.now }
+    ensures line { span.start ≤ length text.now → result.line ≡ count_by (λ b. b == 10) (take span.start text.now) + 1 }
+    ensures column { span.start ≤ length text.now → result.column ≡ column_from 1 (take span.start text.now) }
+    ensures message { result.message ≡ message }
+{
     let place = position_of(text.as_bytes(), span.start);
     Beside {
         file,
@@ -169,12 +177,19 @@ impl Fault {
     }
 
     /// The fault in words, for the text in which it was found.
-    pub fn message<'f, 't>(&'f self, text: &'t str) -> Message<'f, 't> {
+    pub fn message<'f, 't>(&'f self, text: &'t str) -> Message<'f, 't>
+        ensures fault { result.fault.now ≡ self.now }
+        ensures text { result.text.now ≡ text.now }
+    {
         Message { fault: self, text }
     }
 
     /// The fault with its place, for the file and the text in which it was found.
-    pub fn shown<'f, 't>(&'f self, file: &'f str, text: &'t str) -> Shown<'f, 't> {
+    pub fn shown<'p, 'f, 't>(&'f self, file: &'p str, text: &'t str) -> Shown<'p, 'f, 't>
+        ensures file { result.file.now ≡ file.now }
+        ensures fault { result.message.fault.now ≡ self.now }
+        ensures text { result.message.text.now ≡ text.now }
+    {
         Shown {
             file,
             message: self.message(text),
