@@ -96,6 +96,13 @@ impl Layout {
         self.first_top() + step as u128 * (self.square() + GAP)
     }
 
+    /// The foot of a text beside the row after a step, a little below the middle of its squares.
+    pub fn text_foot(&self, step: usize) -> u128
+        ensures { result ≡ top_of self.now step + square_of self.now / 2 + 4 }
+    {
+        self.top(step) + self.square() / 2 + 4
+    }
+
     /// Where a part of a module lies in the row after a step.
     pub fn rect(&self, part: Part, step: usize, place: usize) -> Rect
         ensures { result ≡ rect_of self.now part step place }

@@ -275,7 +275,7 @@ impl fmt::Display for Steps {
         for step in 0..self.steps {
             let number = Text {
                 x: GRID_LEFT - 10,
-                y: layout.top(step) + layout.square() / 2 + 4,
+                y: layout.text_foot(step),
                 style: Style::Small,
                 anchor: Anchor::End,
                 text: step,
@@ -363,7 +363,7 @@ impl fmt::Display for Grid<'_, '_, '_> {
         if history.modules == 0 {
             let none = Text {
                 x: GRID_LEFT,
-                y: layout.top(0) + layout.square() / 2 + 4,
+                y: layout.text_foot(0),
                 style: Style::Small,
                 anchor: Anchor::Start,
                 text: "no modules",
