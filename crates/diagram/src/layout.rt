@@ -2,7 +2,7 @@
 //
 // From the top down: a line for the title, one for the subject, the legend with a line for each bit, the ruler, and then a line of
 // squares for each step, with the step's number at its left.
-ghost use Rattle.std.specs.Prelude.{◌≡◌, ◌+◌, ◌*◌, ◌^◌, ◌<◌, ◌≤◌};
+ghost use Rattle.std.specs.Prelude.{◌≡◌, ◌+◌, ◌*◌, ◌/◌, ◌^◌, ◌<◌, ◌≤◌};
 ghost use Rattle.diagram.specs.Places.{square_of, left_of, first_top_of, top_of, rect_of};
 
 /// A rectangle: its left upper corner and its size, in pixels.
@@ -75,6 +75,13 @@ impl Layout {
         GRID_LEFT + place as u128 * self.square()
     }
 
+    /// The middle of a module's square, from the picture's left side.
+    pub fn middle(&self, place: usize) -> u128
+        ensures { result ≡ left_of self.now place + square_of self.now / 2 }
+    {
+        self.left(place) + self.square() / 2
+    }
+
     /// The top of the first row's squares.
     pub fn first_top(&self) -> u128
         ensures { result ≡ first_top_of self.now }
@@ -87,6 +94,13 @@ impl Layout {
         ensures { result ≡ top_of self.now step }
     {
         self.first_top() + step as u128 * (self.square() + GAP)
+    }
+
+    /// The foot of a text beside the row after a step, a little below the middle of its squares.
+    pub fn text_foot(&self, step: usize) -> u128
+        ensures { result ≡ top_of self.now step + square_of self.now / 2 + 4 }
+    {
+        self.top(step) + self.square() / 2 + 4
     }
 
     /// Where a part of a module lies in the row after a step.

@@ -6,8 +6,9 @@ use crate::colours::colour_of;
 use crate::drawn::rects;
 use crate::history::History;
 use crate::layout::{GRID_LEFT, LEGEND_LINE, LEGEND_TOP, Layout, MARGIN, Part, Rect};
-use crate::text::put_text;
+use crate::text::Escaped;
 use std::alloc::{AllocError, Global};
+use std::fmt;
 
 /// What a diagram shows: the name of the rule's file, of which claim or row it speaks, the names of a module's bits, of which there
 /// are 1 to 11, and the rows.
@@ -69,94 +70,122 @@ impl Anchor {
     }
 }
 
-// Where a text stands, and how.
+// A text: where it stands, and how.
 #[derive(Clone, Copy)]
-struct Label {
+struct Text<D> {
     x: u128,
     y: u128,
     style: Style,
     anchor: Anchor,
+    text: D,
 }
 
-fn put_label(out: &mut String, label: &Label, text: &str) -> Result<(), AllocError> {
-    let (x, y) = (label.x, label.y);
-    let attributes = label.style.attributes();
-    let anchor = label.anchor.name();
-    let open = format!(in *out.allocator();
-        "<text x=\"{x}\" y=\"{y}\" text-anchor=\"{anchor}\" {attributes}>"
-    )?;
-    out.push_str(open.as_str())?;
-    put_text(out, text)?;
-    out.push_str("</text>\n")
-}
-
-fn put_number(out: &mut String, label: &Label, number: usize) -> Result<(), AllocError> {
-    let text = format!(in *out.allocator(); "{number}")?;
-    put_label(out, label, text.as_str())
-}
-
-fn put_rect(out: &mut String, rect: &Rect) -> Result<(), AllocError> {
-    let (x, y, width, height) = (rect.x, rect.y, rect.width, rect.height);
-    let text = format!(in *out.allocator();
-        "<rect x=\"{x}\" y=\"{y}\" width=\"{width}\" height=\"{height}\"/>\n"
-    )?;
-    out.push_str(text.as_str())
-}
-
-// Rectangles that are drawn alike.
-fn put_rects(out: &mut String, attributes: &str, rects: &[Rect]) -> Result<(), AllocError> {
-    let open = format!(in *out.allocator(); "<g {attributes}>\n")?;
-    out.push_str(open.as_str())?;
-    for rect in rects {
-        put_rect(out, rect)?;
+impl<D: fmt::Display> fmt::Display for Text<D> {
+    fn fmt<W: fmt::Write>(&self, f: &mut fmt::Formatter<W>) -> fmt::Result {
+        let (x, y) = (self.x, self.y);
+        let attributes = self.style.attributes();
+        let anchor = self.anchor.name();
+        let text = &self.text;
+        writeln!(
+            f,
+            "<text x=\"{x}\" y=\"{y}\" text-anchor=\"{anchor}\" {attributes}>{text}</text>"
+        )
     }
-    out.push_str("</g>\n")
+}
+
+impl fmt::Display for Rect {
+    fn fmt<W: fmt::Write>(&self, f: &mut fmt::Formatter<W>) -> fmt::Result {
+        let (x, y, width, height) = (self.x, self.y, self.width, self.height);
+        writeln!(
+            f,
+            "<rect x=\"{x}\" y=\"{y}\" width=\"{width}\" height=\"{height}\"/>"
+        )
+    }
+}
+
+// Rectangles that are drawn alike: the colour that fills them, and the attributes of their outlines, if they have any.
+#[derive(Clone, Copy)]
+struct Group<'a> {
+    fill: &'static str,
+    outline: &'static str,
+    rects: &'a [Rect],
+}
+
+impl fmt::Display for Group<'_> {
+    fn fmt<W: fmt::Write>(&self, f: &mut fmt::Formatter<W>) -> fmt::Result {
+        let (fill, outline) = (self.fill, self.outline);
+        writeln!(f, "<g fill=\"{fill}\"{outline}>")?;
+        for rect in self.rects {
+            write!(f, "{rect}")?;
+        }
+        writeln!(f, "</g>")
+    }
+}
+
+// The title, the subject, and what the squares are.
+#[derive(Clone, Copy)]
+struct Head<'a> {
+    title: &'a str,
+    subject: &'a str,
 }
 
 // A text that begins at the left margin.
-fn put_line(out: &mut String, y: u128, style: Style, text: &str) -> Result<(), AllocError> {
-    let label = Label {
+fn line(y: u128, style: Style, text: &str) -> Text<Escaped<'_>> {
+    Text {
         x: MARGIN,
         y,
         style,
         anchor: Anchor::Start,
-    };
-    put_label(out, &label, text)
+        text: Escaped(text),
+    }
 }
 
-// The title, the subject, and what the squares are.
-fn put_head(out: &mut String, title: &str, subject: &str) -> Result<(), AllocError> {
-    put_line(out, 30, Style::Title, title)?;
-    put_line(out, 50, Style::Body, subject)?;
-    put_line(
-        out,
-        72,
-        Style::Small,
-        "a square is a module, its bands are bits:",
-    )
+impl fmt::Display for Head<'_> {
+    fn fmt<W: fmt::Write>(&self, f: &mut fmt::Formatter<W>) -> fmt::Result {
+        let title = line(30, Style::Title, self.title);
+        let subject = line(50, Style::Body, self.subject);
+        let squares = line(
+            72,
+            Style::Small,
+            "a square is a module, its bands are bits:",
+        );
+        write!(f, "{title}{subject}{squares}")
+    }
 }
 
-// A line of the legend: a band in the bit's colour, and the bit's name.
-fn put_bit(out: &mut String, bit: u8, name: &str) -> Result<(), AllocError>
-    requires { bit < 11 }
-{
-    let y = LEGEND_TOP + bit as u128 * LEGEND_LINE;
-    let band = Rect {
-        x: MARGIN,
-        y,
-        width: 30,
-        height: LEGEND_LINE,
-    };
-    let colour = colour_of(bit);
-    let attributes = format!(in *out.allocator(); "fill=\"{colour}\" stroke=\"#444444\"")?;
-    put_rects(out, attributes.as_str(), &[band])?;
-    let label = Label {
-        x: MARGIN + 40,
-        y: y + 13,
-        style: Style::Body,
-        anchor: Anchor::Start,
-    };
-    put_label(out, &label, name)
+// The legend: for each bit a band in its colour, and its name.
+#[derive(Clone, Copy)]
+struct Legend<'a> {
+    bits: &'a [&'a str],
+    ghost few: { length bits.now ≤ 11 },
+}
+
+impl fmt::Display for Legend<'_> {
+    fn fmt<W: fmt::Write>(&self, f: &mut fmt::Formatter<W>) -> fmt::Result {
+        for (bit, name) in self.bits.iter().enumerate() {
+            let y = LEGEND_TOP + bit as u128 * LEGEND_LINE;
+            let band = [Rect {
+                x: MARGIN,
+                y,
+                width: 30,
+                height: LEGEND_LINE,
+            }];
+            let group = Group {
+                fill: colour_of(bit as u8),
+                outline: " stroke=\"#444444\"",
+                rects: &band,
+            };
+            let name = Text {
+                x: MARGIN + 40,
+                y: y + 13,
+                style: Style::Body,
+                anchor: Anchor::Start,
+                text: Escaped(*name),
+            };
+            write!(f, "{group}{name}")?;
+        }
+        Ok(())
+    }
 }
 
 // How many places the ruler goes on from one number to the next.
@@ -171,107 +200,179 @@ fn ruler_step(modules: usize) -> usize
 }
 
 // The ruler above the first row: a tick above each place, a longer one with its number above some, from place 0 on.
-fn put_ruler(out: &mut String, layout: &Layout, modules: usize) -> Result<(), AllocError> {
-    let bottom = layout.first_top() - 3;
-    let every = ruler_step(modules);
-    for place in 0..modules {
-        let x = layout.left(place) + layout.square() / 2;
-        let numbered = place % every == 0;
-        let height: u128 = if numbered { 8 } else { 4 };
-        let tick = Rect {
-            x,
-            y: bottom - height,
-            width: 1,
-            height,
-        };
-        put_rect(out, &tick)?;
-        if numbered {
-            let label = Label {
+#[derive(Clone, Copy)]
+struct Ruler {
+    layout: Layout,
+    modules: usize,
+}
+
+impl fmt::Display for Ruler {
+    fn fmt<W: fmt::Write>(&self, f: &mut fmt::Formatter<W>) -> fmt::Result {
+        let layout = self.layout;
+        let bottom = layout.first_top() - 3;
+        let every = ruler_step(self.modules);
+        for place in 0..self.modules {
+            let x = layout.middle(place);
+            let numbered = place % every == 0;
+            let height: u128 = if numbered { 8 } else { 4 };
+            let tick = Rect {
                 x,
-                y: bottom - 12,
-                style: Style::Small,
-                anchor: Anchor::Middle,
+                y: bottom - height,
+                width: 1,
+                height,
             };
-            put_number(out, &label, place)?;
+            write!(f, "{tick}")?;
+            if numbered {
+                let number = Text {
+                    x,
+                    y: bottom - 12,
+                    style: Style::Small,
+                    anchor: Anchor::Middle,
+                    text: place,
+                };
+                write!(f, "{number}")?;
+            }
         }
+        Ok(())
     }
-    Ok(())
 }
 
 // What stands above the ruler and above the numbers of the steps.
-fn put_axes(out: &mut String, layout: &Layout) -> Result<(), AllocError> {
-    let place = Label {
-        x: GRID_LEFT,
-        y: layout.first_top() - 30,
-        style: Style::Small,
-        anchor: Anchor::Start,
-    };
-    put_label(out, &place, "place")?;
-    let step = Label {
-        x: GRID_LEFT - 10,
-        y: layout.first_top() - 15,
-        style: Style::Small,
-        anchor: Anchor::End,
-    };
-    put_label(out, &step, "step")
-}
+#[derive(Clone, Copy)]
+struct Axes(Layout);
 
-// The numbers of the steps, at the left of their rows.
-fn put_steps(out: &mut String, layout: &Layout, steps: usize) -> Result<(), AllocError> {
-    for step in 0..steps {
-        let label = Label {
+impl fmt::Display for Axes {
+    fn fmt<W: fmt::Write>(&self, f: &mut fmt::Formatter<W>) -> fmt::Result {
+        let layout = self.0;
+        let place = Text {
+            x: GRID_LEFT,
+            y: layout.first_top() - 30,
+            style: Style::Small,
+            anchor: Anchor::Start,
+            text: "place",
+        };
+        let step = Text {
             x: GRID_LEFT - 10,
-            y: layout.top(step) + layout.square() / 2 + 4,
+            y: layout.first_top() - 15,
             style: Style::Small,
             anchor: Anchor::End,
+            text: "step",
         };
-        put_number(out, &label, step)?;
+        write!(f, "{place}{step}")
     }
-    Ok(())
+}
+
+// The numbers of so many steps, at the left of their rows.
+#[derive(Clone, Copy)]
+struct Steps {
+    layout: Layout,
+    steps: usize,
+}
+
+impl fmt::Display for Steps {
+    fn fmt<W: fmt::Write>(&self, f: &mut fmt::Formatter<W>) -> fmt::Result {
+        let layout = self.layout;
+        for step in 0..self.steps {
+            let number = Text {
+                x: GRID_LEFT - 10,
+                y: layout.text_foot(step),
+                style: Style::Small,
+                anchor: Anchor::End,
+                text: step,
+            };
+            write!(f, "{number}")?;
+        }
+        Ok(())
+    }
+}
+
+// The bands of a bit, in its colour: one in each module that has the bit.
+#[derive(Drop)]
+struct Bands {
+    colour: &'static str,
+    rects: Vec<Rect>,
+}
+
+// The bands of each bit.
+fn bands_of(alloc: Global, layout: &Layout, rows: &[Vec<u32>]) -> Result<Vec<Bands>, AllocError>
+    requires { layout.now.bits ≤ 11 }
+{
+    let mut all = Vec::new(alloc);
+    for bit in 0..layout.bits {
+        all.push(Bands {
+            colour: colour_of(bit),
+            rects: rects(alloc, layout, Part::Band(bit), rows)?,
+        })?;
+    }
+    Ok(all)
 }
 
 // The modules of all rows: light squares, on them the bands of the bits that are set, and then the squares' frames.
-fn put_modules(
-    out: &mut String,
-    layout: &Layout,
-    bits: u8,
-    rows: &[Vec<u32>],
-) -> Result<(), AllocError>
-    requires { bits ≤ 11 }
-{
-    let frames = rects(*out.allocator(), layout, Part::Frame, rows)?;
-    put_rects(out, "fill=\"#f4f4f4\"", &frames)?;
-    for bit in 0..bits {
-        let bands = rects(*out.allocator(), layout, Part::Band(bit), rows)?;
-        let colour = colour_of(bit);
-        let attributes = format!(in *out.allocator(); "fill=\"{colour}\"")?;
-        put_rects(out, attributes.as_str(), &bands)?;
+#[derive(Clone, Copy)]
+struct Modules<'f, 'b> {
+    frames: &'f [Rect],
+    bands: &'b [Bands],
+}
+
+impl fmt::Display for Modules<'_, '_> {
+    fn fmt<W: fmt::Write>(&self, f: &mut fmt::Formatter<W>) -> fmt::Result {
+        let squares = Group {
+            fill: "#f4f4f4",
+            outline: "",
+            rects: self.frames,
+        };
+        write!(f, "{squares}")?;
+        for bands in self.bands {
+            let group = Group {
+                fill: bands.colour,
+                outline: "",
+                rects: bands.rects.as_slice(),
+            };
+            write!(f, "{group}")?;
+        }
+        let frames = Group {
+            fill: "none",
+            outline: " stroke=\"#777777\" stroke-width=\"0.8\"",
+            rects: self.frames,
+        };
+        write!(f, "{frames}")
     }
-    put_rects(
-        out,
-        "fill=\"none\" stroke=\"#777777\" stroke-width=\"0.8\"",
-        &frames,
-    )
 }
 
 // The row or rows with all that stands around them.
-fn put_grid(out: &mut String, layout: &Layout, history: &History) -> Result<(), AllocError>
-    requires { layout.now.bits ≤ 11 }
-{
-    let rows = history.rows.as_slice();
-    put_axes(out, layout)?;
-    put_ruler(out, layout, history.modules)?;
-    put_steps(out, layout, rows.len())?;
-    if history.modules == 0 {
-        let label = Label {
-            x: GRID_LEFT,
-            y: layout.top(0) + layout.square() / 2 + 4,
-            style: Style::Small,
-            anchor: Anchor::Start,
+#[derive(Clone, Copy)]
+struct Grid<'h, 'f, 'b> {
+    layout: Layout,
+    history: &'h History,
+    modules: Modules<'f, 'b>,
+}
+
+impl fmt::Display for Grid<'_, '_, '_> {
+    fn fmt<W: fmt::Write>(&self, f: &mut fmt::Formatter<W>) -> fmt::Result {
+        let layout = self.layout;
+        let history = self.history;
+        let ruler = Ruler {
+            layout,
+            modules: history.modules,
         };
-        put_label(out, &label, "no modules")?;
+        let steps = Steps {
+            layout,
+            steps: history.rows.len(),
+        };
+        write!(f, "{}{ruler}{steps}", Axes(layout))?;
+        if history.modules == 0 {
+            let none = Text {
+                x: GRID_LEFT,
+                y: layout.text_foot(0),
+                style: Style::Small,
+                anchor: Anchor::Start,
+                text: "no modules",
+            };
+            write!(f, "{none}")?;
+        }
+        let modules = self.modules;
+        write!(f, "{modules}")
     }
-    put_modules(out, layout, layout.bits, rows)
 }
 
 impl Diagram<'_> {
@@ -289,20 +390,27 @@ impl Diagram<'_> {
 
 /// The picture of a diagram, as an SVG text. Nothing but memory can be wanting.
 pub fn svg(alloc: Global, diagram: &Diagram<'_>) -> Result<String, AllocError> {
-    let modules = diagram.history.modules;
-    let steps = diagram.history.rows.len();
-    let layout = Layout::new(diagram.bits.len() as u8, modules);
+    let history = diagram.history;
+    let layout = Layout::new(diagram.bits.len() as u8, history.modules);
     let width = diagram.width(&layout);
-    let height = layout.top(steps) + MARGIN;
-    let mut out = format!(in alloc;
-        "<svg xmlns=\"http://www.w3.org/2000/svg\" width=\"{width}\" height=\"{height}\" viewBox=\"0 0 {width} {height}\" font-family=\"sans-serif\">\n"
-    )?;
-    out.push_str("<rect width=\"100%\" height=\"100%\" fill=\"#ffffff\"/>\n")?;
-    put_head(&mut out, diagram.title, diagram.subject)?;
-    for (bit, name) in diagram.bits.iter().enumerate() {
-        put_bit(&mut out, bit as u8, name)?;
-    }
-    put_grid(&mut out, &layout, diagram.history)?;
-    out.push_str("</svg>\n")?;
-    Ok(out)
+    let height = layout.top(history.rows.len()) + MARGIN;
+    let frames = rects(alloc, &layout, Part::Frame, &history.rows)?;
+    let bands = bands_of(alloc, &layout, &history.rows)?;
+    let head = Head {
+        title: diagram.title,
+        subject: diagram.subject,
+    };
+    let legend = Legend { bits: diagram.bits };
+    let modules = Modules {
+        frames: &frames,
+        bands: &bands,
+    };
+    let grid = Grid {
+        layout,
+        history,
+        modules,
+    };
+    format!(in alloc;
+        "<svg xmlns=\"http://www.w3.org/2000/svg\" width=\"{width}\" height=\"{height}\" viewBox=\"0 0 {width} {height}\" font-family=\"sans-serif\">\n<rect width=\"100%\" height=\"100%\" fill=\"#ffffff\"/>\n{head}{legend}{grid}</svg>\n"
+    )
 }

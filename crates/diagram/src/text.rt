@@ -1,9 +1,8 @@
 // Texts in an XML text: signs that would be read as markup get a name, and what may not stand there at all is replaced.
-ghost use Rattle.std.specs.Prelude.{◌≡◌, ◌++◌, OnOk, MatchOption, encode_utf8};
-ghost use Rattle.std.specs.String.{string_bytes};
+ghost use Rattle.std.specs.Prelude.{◌≡◌, MatchOption, Some, encode_utf8};
 ghost use Rattle.diagram.specs.Escapes.{is_forbidden, escape_of, escaped};
 
-use std::alloc::AllocError;
+use std::fmt;
 
 // Whether a character may not stand in an XML text: control characters but for tab, line feed and carriage return, and two codes
 // that are no character.
@@ -34,22 +33,34 @@ fn replacement(c: char) -> Option<&'static str>
     }
 }
 
-fn put_char(out: &mut String, c: char) -> Result<(), AllocError>
-    ensures { OnOk result (string_bytes out.new ≡ string_bytes out.old ++ escape_of c) }
-{
-    match replacement(c) {
-        Some(name) => out.push_str(name),
-        None => out.push(c),
+// A character, as it stands there.
+#[derive(Clone, Copy)]
+struct Escape(char);
+
+impl fmt::Display for Escape {
+    ghost output = { λ escape. Some (escape_of escape.0) };
+
+    fn fmt<W: fmt::Write>(&self, f: &mut fmt::Formatter<W>) -> fmt::Result {
+        let c = self.0;
+        match replacement(c) {
+            Some(name) => write!(f, "{name}"),
+            None => write!(f, "{c}"),
+        }
     }
 }
 
-/// Puts a text behind what is there, so that a reader of XML reads the text back, with U+FFFD for each character that may not
-/// stand there.
-pub fn put_text(out: &mut String, text: &str) -> Result<(), AllocError>
-    ensures { OnOk result (string_bytes out.new ≡ string_bytes out.old ++ escaped text.now) }
-{
-    for c in text.chars() {
-        put_char(out, c)?;
+/// A text that prints so that a reader of XML reads the text back, with U+FFFD for each character that may not stand there.
+#[derive(Clone, Copy, Debug)]
+pub struct Escaped<'a>(pub &'a str);
+
+impl fmt::Display for Escaped<'_> {
+    ghost output = { λ text. Some (escaped text.0.now) };
+
+    fn fmt<W: fmt::Write>(&self, f: &mut fmt::Formatter<W>) -> fmt::Result {
+        for c in self.0.chars() {
+            let escape = Escape(c);
+            write!(f, "{escape}")?;
+        }
+        Ok(())
     }
-    Ok(())
 }

@@ -13,16 +13,16 @@ const WIDTH: usize = 60;
 /// A word that prints as rows of marks: for each name the marks of its set, whose number is the name's index (`#` for a place that the set has, else `.`),
 /// with a ruler above them that numbers the places from 0 on. At most 60 places stand on a line. A word with no columns prints nothing.
 #[derive(Clone, Copy, Debug)]
-pub struct Marks<'a, 't> {
-    pub names: &'a [&'t str],
-    pub word: &'a [u32],
+pub struct Marks<'n, 't, 'w> {
+    pub names: &'n [&'t str],
+    pub word: &'w [u32],
 }
 
 // The places of a word that stand on a line, and the first of them. A word of more than ten places has its tens numbered.
 #[derive(Clone, Copy)]
-struct Block<'a, 't> {
-    names: &'a [&'t str],
-    columns: &'a [u32],
+struct Block<'n, 't, 'w> {
+    names: &'n [&'t str],
+    columns: &'w [u32],
     from: usize,
     tens: bool,
     ghost some: { 0 < length columns.now },
@@ -37,7 +37,7 @@ fn longest(names: &[&str]) -> usize
     names.iter().map(|name| name.len()).max().unwrap_or(0)
 }
 
-impl fmt::Display for Block<'_, '_> {
+impl fmt::Display for Block<'_, '_, '_> {
     ghost output = { λ block. Some (block_of (map (λ name. name.now) block.names.now) block.columns.now block.from block.tens) };
 
     fn fmt<W: fmt::Write>(&self, f: &mut fmt::Formatter<W>) -> fmt::Result {
@@ -65,7 +65,7 @@ impl fmt::Display for Block<'_, '_> {
     }
 }
 
-impl fmt::Display for Marks<'_, '_> {
+impl fmt::Display for Marks<'_, '_, '_> {
     ghost output = { λ marks. Some (shown (map (λ name. name.now) marks.names.now) marks.word.now) };
 
     fn fmt<W: fmt::Write>(&self, f: &mut fmt::Formatter<W>) -> fmt::Result {

@@ -3,14 +3,18 @@
 // A line that is not of that form gets a message with its number, one that would take more than 256 MiB of work memory says so, and the run goes on.
 #![tactic(auto)]
 
+ghost use Rattle.std.specs.Prelude.{Some};
+ghost use Rattle.judge_lines.specs.Answers.{line_of};
+
+use display::columns::Columns;
 use lengths::judge::judge;
 use lengths::judged::Judged;
-use line_format::line::{Fault, read_bytes, read_fields, read_number};
+use line_format::fault::Fault;
+use line_format::line::{read_bytes, read_fields, read_number};
 use room::floor::floor;
 use std::alloc::Global;
-use std::io;
+use std::fmt;
 use std::io::{BufRead, BufReader};
-use std::str::from_utf8;
 
 // The most work words that a line may take: 256 MiB.
 const MOST_WORDS: u128 = 67108864;
@@ -23,88 +27,35 @@ struct Question {
     out: Option<u32>,
 }
 
-// Bytes as they are printed in a message: the first forty, if they are text.
-fn shown(bytes: &[u8]) -> &str {
-    let front = if bytes.len() > 40 {
-        &bytes[0..40]
-    } else {
-        bytes
-    };
-    match from_utf8(front) {
-        Ok(text) => text,
-        Err(_) => "(no text)",
-    }
+// An answer as it is printed. Of two first words the call has put the columns one behind the other into `out`.
+#[derive(Clone, Copy)]
+struct Answer<'a> {
+    judged: Judged,
+    out: &'a [u32],
 }
 
-// What was expected, and what stands there instead.
-fn tell_fault(rt: &HostRuntime, number: u64, fault: Fault) -> io::Result<()> {
-    print!(rt; "line {number}: expected \"most hexbytes [outwords]\", found ")?;
-    match fault {
-        Fault::Empty => println!(rt; "an empty line"),
-        Fault::OneField(field) => {
-            let field = shown(field);
-            println!(rt; "one field, \"{field}\"")
-        }
-        Fault::FourthField(field) => {
-            let field = shown(field);
-            println!(rt; "a fourth field, \"{field}\"")
-        }
-        Fault::Most(field) => {
-            let field = shown(field);
-            println!(rt; "\"{field}\" where most is a number from 0 to 4294967295")
-        }
-        Fault::OutWords(field) => {
-            let field = shown(field);
-            println!(rt; "\"{field}\" where outwords is a number from 0 to 4294967295")
-        }
-        Fault::OddDigits(count) => println!(rt;
-            "an odd number of characters, {count}, where two hex digits make a byte"
-        ),
-        Fault::NoPair(a, b) => {
-            let pair = [a, b];
-            let pair = shown(&pair);
-            println!(rt; "\"{pair}\" where two hex digits make a byte")
-        }
-        Fault::Memory => println!(rt; "more bytes than there is memory for"),
-    }
-}
+impl fmt::Display for Answer<'_> {
+    ghost output = { λ answer. Some (line_of answer.judged answer.out.now) };
 
-// The columns of a word, with a space between them.
-fn tell_word(rt: &HostRuntime, word: &[u32]) -> io::Result<()> {
-    let mut first = true;
-    for column in word {
-        if !first {
-            print!(rt; " ")?;
+    fn fmt<W: fmt::Write>(&self, f: &mut fmt::Formatter<W>) -> fmt::Result {
+        match self.judged {
+            Judged::Always => write!(f, "always"),
+            Judged::Never => write!(f, "never"),
+            Judged::NoClaim => write!(f, "no claim"),
+            Judged::Many => write!(f, "many"),
+            Judged::OutFull(a, b) => write!(f, "out full {a} {b}"),
+            Judged::Few => write!(f, "few"),
+            Judged::Both(a, b) => {
+                write!(f, "both {a} {b} | ")?;
+                if a <= self.out.len() && b <= self.out.len() - a {
+                    let first = Columns(&self.out[..a]);
+                    let second = Columns(&self.out[a..][..b]);
+                    write!(f, "{first} | {second}")?;
+                }
+                Ok(())
+            }
         }
-        first = false;
-        print!(rt; "{column}")?;
     }
-    Ok(())
-}
-
-// The two words: the lengths, then the columns of each. The call has put them one behind the other.
-fn tell_words(rt: &HostRuntime, a: usize, b: usize, out: &[u32]) -> io::Result<()> {
-    print!(rt; "both {a} {b} | ")?;
-    if a <= out.len() && b <= out.len() - a {
-        tell_word(rt, &out[0..a])?;
-        print!(rt; " | ")?;
-        tell_word(rt, &out[a..a + b])?;
-    }
-    println!(rt; "")
-}
-
-fn tell(rt: &HostRuntime, answer: Judged, out: &[u32]) -> io::Result<()> {
-    let Judged::Both(a, b) = answer else {
-        return match answer {
-            Judged::Always => println!(rt; "always"),
-            Judged::Never => println!(rt; "never"),
-            Judged::NoClaim => println!(rt; "no claim"),
-            Judged::Many => println!(rt; "many"),
-            Judged::OutFull(a, b) => println!(rt; "out full {a} {b}"),
-            _ => println!(rt; "few"),
-        };
-    };
-    tell_words(rt, a, b, out)
 }
 
 // Judges a claim, with work memory of exactly the floor. A first word is shorter than there are classes, so two words for each class are room for any answer.
@@ -120,8 +71,9 @@ fn judge_line(rt: &HostRuntime, question: &Question) -> anyhow::Result<()> {
     };
     let mut work = vec![in rt.alloc(); 0u32; words as usize]?;
     let mut out = vec![in rt.alloc(); 0u32; room]?;
-    let answer = judge(&question.bytes, question.most, &mut out, &mut work);
-    tell(rt, answer, &out)?;
+    let judged = judge(&question.bytes, question.most, &mut out, &mut work);
+    let answer = Answer { judged, out: &out };
+    println!(rt; "{answer}")?;
     Ok(())
 }
 
@@ -146,11 +98,11 @@ fn read_line(heap: Global, text: &[u8]) -> Result<Question, Fault<'_>> {
     Ok(Question { most, bytes, out })
 }
 
-fn answer(rt: &HostRuntime, number: u64, text: &[u8]) -> anyhow::Result<()> {
+fn answer_line(rt: &HostRuntime, number: u64, text: &[u8]) -> anyhow::Result<()> {
     match read_line(rt.alloc(), text) {
         Ok(question) => judge_line(rt, &question),
         Err(fault) => {
-            tell_fault(rt, number, fault)?;
+            println!(rt; "line {number}: {fault}")?;
             Ok(())
         }
     }
@@ -160,7 +112,7 @@ fn run(rt: &HostRuntime) -> anyhow::Result<()> {
     let mut number = 0u64;
     for text in BufReader::new(rt.alloc(), rt.stdin())?.split(rt.alloc(), b'\n') {
         number = number.saturating_add(1);
-        answer(rt, number, &text?)?;
+        answer_line(rt, number, &text?)?;
     }
     Ok(())
 }

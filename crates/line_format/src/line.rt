@@ -1,22 +1,10 @@
 // What stands on a line: `most hexbytes`, or `most hexbytes outwords`, with one space between them. `-` stands for no bytes.
 ghost use Rattle.std.specs.Prelude.{◌≡◌, ℕ, ◌^◌, ◌<◌, ◌⊎◌, List, ◌∷◌, ◌++◌, MatchOption, MatchResult};
 ghost use Rattle.line_format.specs.Line.{NoSpace, Two, Three, Number, Digit, Pair, Field};
-ghost use Rattle.line_format.specs.declared.line.Fault.TheVariants.{Memory};
+ghost use Rattle.line_format.specs.declared.fault.Fault.TheVariants.{Memory};
 
+use crate::fault::Fault;
 use std::alloc::Global;
-
-// Why a line is not of that form: what was found.
-#[derive(Clone, Copy)]
-pub enum Fault<'a> {
-    Empty,
-    OneField(&'a [u8]),
-    FourthField(&'a [u8]),
-    Most(&'a [u8]),
-    OutWords(&'a [u8]),
-    OddDigits(usize),
-    NoPair(u8, u8),
-    Memory,
-}
 
 // The text before the first space, and the text behind that, if there is a space.
 fn split_field(text: &[u8]) -> (&[u8], Option<&[u8]>)

@@ -1,6 +1,9 @@
 // What is wrong with a rule file: where it stands, what was expected and what stands there.
+ghost use Rattle.std.specs.Prelude.{◌≡◌};
+
 use crate::token::{Kind, Token};
-use std::alloc::{AllocError, AllocFailed, Global};
+use std::alloc::{AllocError, AllocFailed};
+use std::fmt;
 use std::str::from_utf8;
 use trees::position::Span;
 use thiserror::Error;
@@ -58,26 +61,35 @@ impl<T: Drop> From<AllocFailed<T>> for Fault {
     }
 }
 
-fn wanted_words(wanted: Wanted) -> &'static str {
-    match wanted {
-        Wanted::Bits => "`bits:` with the names of a module's bits",
-        Wanted::Statement => "`allowed:`, `table:`, `never`, `claim` or `row:`",
-        Wanted::Colon => "`:`",
-        Wanted::Name => "a name",
-        Wanted::NameOrEnd => "a name or the end of the line",
-        Wanted::BitName => "a bit's name",
-        Wanted::Term => "a bit's name, `!` and a bit's name, `module`, `none` or `*`",
-        Wanted::TermOrBar => "`|` or a further word of the pattern",
-        Wanted::TermOrArrow => "`->` or a further word of the pattern",
-        Wanted::TermOrEnd => "a further word of the pattern or the end of the line",
-        Wanted::Motion => "`moves`, `waits` or a bit that changes",
-        Wanted::ChangeOrEnd => "a bit that changes or the end of the line",
-        Wanted::Source => "a bit's name, `left.` or `right.`",
-        Wanted::Dot => "`.`",
-        Wanted::Module => "a module: `.`, or the names of its bits with `+` between them",
-        Wanted::ModuleOrEnd => "`+`, a further module or the end of the line",
-        Wanted::Formula => "a formula",
-        Wanted::LineEnd => "the end of the line",
+impl fmt::Display for Wanted {
+    fn fmt<W: fmt::Write>(&self, f: &mut fmt::Formatter<W>) -> fmt::Result {
+        write!(f, "{}", self.words())
+    }
+}
+
+impl Wanted {
+    // What could stand there, in words.
+    fn words(self) -> &'static str {
+        match self {
+            Wanted::Bits => "`bits:` with the names of a module's bits",
+            Wanted::Statement => "`allowed:`, `table:`, `never`, `claim` or `row:`",
+            Wanted::Colon => "`:`",
+            Wanted::Name => "a name",
+            Wanted::NameOrEnd => "a name or the end of the line",
+            Wanted::BitName => "a bit's name",
+            Wanted::Term => "a bit's name, `!` and a bit's name, `module`, `none` or `*`",
+            Wanted::TermOrBar => "`|` or a further word of the pattern",
+            Wanted::TermOrArrow => "`->` or a further word of the pattern",
+            Wanted::TermOrEnd => "a further word of the pattern or the end of the line",
+            Wanted::Motion => "`moves`, `waits` or a bit that changes",
+            Wanted::ChangeOrEnd => "a bit that changes or the end of the line",
+            Wanted::Source => "a bit's name, `left.` or `right.`",
+            Wanted::Dot => "`.`",
+            Wanted::Module => "a module: `.`, or the names of its bits with `+` between them",
+            Wanted::ModuleOrEnd => "`+`, a further module or the end of the line",
+            Wanted::Formula => "a formula",
+            Wanted::LineEnd => "the end of the line",
+        }
     }
 }
 
@@ -100,30 +112,80 @@ fn is_word(kind: Kind) -> bool {
     }
 }
 
-// The bytes of a token, quoted.
-fn put_quoted(out: &mut String, text: &str, token: Token) -> Result<(), AllocError> {
-    match from_utf8(token.span.of(text.as_bytes())) {
-        Ok(word) => {
-            out.push_str("`")?;
-            out.push_str(word)?;
-            out.push_str("`")
+// A token as it stands in the text, quoted.
+#[derive(Clone, Copy)]
+struct Quoted<'t> {
+    text: &'t str,
+    token: Token,
+}
+
+impl fmt::Display for Quoted<'_> {
+    fn fmt<W: fmt::Write>(&self, f: &mut fmt::Formatter<W>) -> fmt::Result {
+        match from_utf8(self.token.span.of(self.text.as_bytes())) {
+            Ok(word) => write!(f, "`{word}`"),
+            Err(_) => write!(f, "what is no text"),
         }
-        Err(_) => out.push_str("what is no text"),
     }
 }
 
-// What stands at a place.
-fn put_found(out: &mut String, text: &str, found: Option<Token>) -> Result<(), AllocError> {
-    let Some(token) = found else {
-        return out.push_str("the end of the file");
-    };
-    if token.kind == Kind::LineEnd {
-        return out.push_str("the end of the line");
+// What stands at a place: a token, or nothing at the end of the file.
+#[derive(Clone, Copy)]
+struct Found<'t> {
+    text: &'t str,
+    token: Option<Token>,
+}
+
+impl fmt::Display for Found<'_> {
+    fn fmt<W: fmt::Write>(&self, f: &mut fmt::Formatter<W>) -> fmt::Result {
+        let Some(token) = self.token else {
+            return write!(f, "the end of the file");
+        };
+        if token.kind == Kind::LineEnd {
+            return write!(f, "the end of the line");
+        }
+        let word = if is_word(token.kind) { "the word " } else { "" };
+        let quoted = Quoted {
+            text: self.text,
+            token,
+        };
+        write!(f, "{word}{quoted}")
     }
-    if is_word(token.kind) {
-        out.push_str("the word ")?;
+}
+
+/// A fault in words: what was expected, and what stands there in the text.
+#[derive(Clone, Copy, Debug)]
+pub struct Message<'t> {
+    pub fault: Fault,
+    pub text: &'t str,
+}
+
+impl fmt::Display for Message<'_> {
+    fn fmt<W: fmt::Write>(&self, f: &mut fmt::Formatter<W>) -> fmt::Result {
+        let text = self.text;
+        match self.fault {
+            Fault::Expected(wanted, token) => {
+                let found = Found { text, token };
+                write!(f, "expected {wanted}, found {found}")
+            }
+            Fault::SixthBit(token) => {
+                let quoted = Quoted { text, token };
+                write!(f, "expected at most five bits, found {quoted}")
+            }
+            Fault::Twice(token) => {
+                let quoted = Quoted { text, token };
+                write!(f, "expected another name, found {quoted} a second time")
+            }
+            Fault::Reserved(token) => {
+                let quoted = Quoted { text, token };
+                write!(
+                    f,
+                    "expected a name, found {quoted}, which means something in formulas"
+                )
+            }
+            Fault::SecondBits(_) => write!(f, "expected one line `bits:`, found a second one"),
+            Fault::OutOfMemory => write!(f, "there is not enough memory"),
+        }
     }
-    put_quoted(out, text, token)
 }
 
 impl Fault {
@@ -143,35 +205,11 @@ impl Fault {
         }
     }
 
-    /// What was expected and what stands there, in words. Fails for memory alone.
-    pub fn message(&self, alloc: Global, text: &str) -> Result<String, AllocError> {
-        let mut out = String::new(alloc);
-        match self {
-            Fault::Expected(wanted, found) => {
-                out.push_str("expected ")?;
-                out.push_str(wanted_words(*wanted))?;
-                out.push_str(", found ")?;
-                put_found(&mut out, text, *found)?;
-            }
-            Fault::SixthBit(token) => {
-                out.push_str("expected at most five bits, found ")?;
-                put_quoted(&mut out, text, *token)?;
-            }
-            Fault::Twice(token) => {
-                out.push_str("expected another name, found ")?;
-                put_quoted(&mut out, text, *token)?;
-                out.push_str(" a second time")?;
-            }
-            Fault::Reserved(token) => {
-                out.push_str("expected a name, found ")?;
-                put_quoted(&mut out, text, *token)?;
-                out.push_str(", which means something in formulas")?;
-            }
-            Fault::SecondBits(_) => {
-                out.push_str("expected one line `bits:`, found a second one")?
-            }
-            Fault::OutOfMemory => out.push_str("there is not enough memory")?,
-        }
-        Ok(out)
+    /// The fault in words, for the text in which it was found.
+    pub fn message<'t>(&self, text: &'t str) -> Message<'t>
+        ensures fault { result.fault ≡ self.now }
+        ensures text { result.text.now ≡ text.now }
+    {
+        Message { fault: *self, text }
     }
 }

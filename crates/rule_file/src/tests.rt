@@ -11,7 +11,7 @@ fn said(alloc: Global, text: &str) -> Result<String, Fail> {
     match read(alloc, text) {
         Ok(file) => Ok(print(alloc, text, &file)?),
         Err(fault) => {
-            let message = fault.message(alloc, text)?;
+            let message = fault.message(text);
             match fault.span(text) {
                 Some(span) => {
                     let place = position_of(text.as_bytes(), span.start);
@@ -19,7 +19,7 @@ fn said(alloc: Global, text: &str) -> Result<String, Fail> {
                     let column = place.column;
                     Ok(format!(in alloc; "{line}:{column}: {message}")?)
                 }
-                None => Ok(message),
+                None => Ok(format!(in alloc; "{message}")?),
             }
         }
     }

@@ -1,20 +1,19 @@
-// One question of a rule: judged for rows of every length, and told.
+// One question of a rule: judged for rows of every length, and the answer in words.
 use crate::narrow::narrowest;
 use crate::options::Options;
-use crate::shown_rows::{Picture, draw, history, put_history};
+use crate::shown_rows::{Rows, history};
 use crate::stop::Stop;
 use crate::subject::Subject;
-use claim_text::text::text;
-use claims::encode::{Refusal, encode};
-use claims::tree::Claim;
+use claims::encode::Refusal;
+use diagram::history::History;
 use rule_check::first_row::first_row;
 use rule_check::verdict::Verdict;
+use rule_source::fault::beside;
 use rule_source::source::Source;
-use rules::property::claim_of;
 use rules::question::Question;
-use std::alloc::{AllocError, Global};
-use trees::shown::shown;
-use trees::position::position_of;
+use std::alloc::Global;
+use std::fmt;
+use trees::position::{Span, position_of};
 
 /// A rule file with its name, and how its report is wanted.
 #[derive(Clone, Copy)]
@@ -24,146 +23,83 @@ pub struct Asked<'s, 't> {
     pub options: &'s Options,
 }
 
-// That more than so many classes are told apart, and where.
-fn put_large(
-    alloc: Global,
-    out: &mut String,
-    asked: Asked<'_, '_>,
-    subject: &Subject<'_>,
-    most: u32,
-) -> Result<(), Stop> {
-    let name = subject.name();
-    let file = asked.file;
-    let source = asked.source;
-    let text = source.bits.text.as_bytes();
-    let Some(span) = narrowest(alloc, source, subject, most)? else {
-        let line = format!(in alloc;
-            "  {name}: too large: more than {most} classes are told apart at {file}, whatever its lines say\n"
-        )?;
-        return Ok(out.push_str(line.as_str())?);
-    };
-    let place = position_of(text, span.start);
-    let line = place.line;
-    let column = place.column;
-    let words = format!(in alloc;
-        "  {name}: too large: more than {most} classes are told apart at {file}:{line}:{column}\n"
-    )?;
-    out.push_str(words.as_str())?;
-    let beside = shown(
-        alloc,
-        file,
-        text,
-        span,
-        "with this, and what stands before it, it gets too large",
-    )?;
-    Ok(out.push_str(beside.as_str())?)
+/// What is found of a question.
+#[derive(Drop)]
+pub enum Answer {
+    // no row has the property
+    Never,
+    // the first row that has it, with the rows after it
+    First(History),
+    // more than so many classes are told apart, from this place of the file on, or whatever its lines say
+    TooLarge(u32, Option<Span>),
+    // the claim needs more sets or bytes than there may be
+    Refused(Refusal),
 }
 
-// The first row that has the property, with the rows after it, and its picture.
-fn put_first(
+/// The answer to a question about the subject. Fails for memory.
+pub fn answer_to(
     alloc: Global,
-    out: &mut String,
-    asked: Asked<'_, '_>,
-    subject: &Subject<'_>,
-    row: &[u32],
-) -> Result<Option<Picture>, Stop> {
-    let name = subject.name();
-    let found = subject.found();
-    let count = row.len();
-    let line = format!(in alloc; "  {name}: {found} {count}\n")?;
-    out.push_str(line.as_str())?;
-    let steps = subject.steps(asked.options.steps);
-    let history = history(alloc, asked.source, row, steps)?;
-    put_history(out, asked.source, &history)?;
-    if asked.options.pictures {
-        let short = subject.short();
-        Ok(Some(draw(alloc, asked.source, asked.file, name, short, &history)?))
-    } else {
-        Ok(None)
-    }
-}
-
-// The claim's bytes, in hex digits, if it has any.
-fn put_bytes(
-    alloc: Global,
-    out: &mut String,
-    question: &Question<'_>,
-    claim: &Claim,
-) -> Result<(), Stop> {
-    let bytes = match encode(alloc, claim, question.rule.bits as usize + 1) {
-        Ok(bytes) => bytes,
-        Err(Refusal::OutOfMemory) => return Err(Stop::Memory),
-        Err(refusal) => {
-            let line = format!(in alloc; "    no bytes: {refusal}\n")?;
-            return Ok(out.push_str(line.as_str())?);
-        }
-    };
-    out.push_str("    bytes ")?;
-    for byte in &bytes {
-        let pair = format!(in alloc; "{byte:02x}")?;
-        out.push_str(pair.as_str())?;
-    }
-    Ok(out.push('\n')?)
-}
-
-// The claim as a text.
-fn put_text(
-    alloc: Global,
-    out: &mut String,
-    asked: Asked<'_, '_>,
-    claim: &Claim,
-) -> Result<(), Stop> {
-    let names = asked.source.bits.set_names(alloc)?;
-    let mut words = Vec::new(alloc);
-    for name in &names {
-        words.push(name.as_str())?;
-    }
-    let text = text(alloc, claim, &words)?;
-    for line in text.as_str().lines() {
-        out.push_str("    ")?;
-        out.push_str(line)?;
-        out.push('\n')?;
-    }
-    Ok(())
-}
-
-/// Puts the answer to a question behind what is there, and gives the picture of its first row where one is wanted and found. Fails for memory.
-pub fn put_answer(
-    alloc: Global,
-    out: &mut String,
     asked: Asked<'_, '_>,
     subject: &Subject<'_>,
     question: &Question<'_>,
-) -> Result<Option<Picture>, Stop> {
-    let name = subject.name();
+) -> Result<Answer, Stop> {
     let most = asked.options.most.unwrap_or(u32::MAX);
-    let picture = match first_row(alloc, question, most) {
-        Ok(Verdict::Never) => {
-            let settled = subject.settled();
-            let line = format!(in alloc; "  {name}: {settled}\n")?;
-            out.push_str(line.as_str())?;
-            None
+    match first_row(alloc, question, most) {
+        Ok(Verdict::Never) => Ok(Answer::Never),
+        Ok(Verdict::First(row)) => {
+            let steps = subject.steps(asked.options.steps);
+            Ok(Answer::First(history(alloc, asked.source, &row, steps)?))
         }
-        Ok(Verdict::First(row)) => put_first(alloc, out, asked, subject, &row)?,
         Ok(Verdict::TooLarge(n)) => {
-            put_large(alloc, out, asked, subject, n)?;
-            None
+            Ok(Answer::TooLarge(n, narrowest(alloc, asked.source, subject, n)?))
         }
-        Err(Refusal::OutOfMemory) => return Err(Stop::Memory),
-        Err(refusal) => {
-            let line = format!(in alloc; "  {name}: too large: {refusal}\n")?;
-            out.push_str(line.as_str())?;
-            None
-        }
-    };
-    if asked.options.show || asked.options.bytes {
-        let claim = claim_of(alloc, question.rule, &question.property)?;
-        if asked.options.show {
-            put_text(alloc, out, asked, &claim)?;
-        }
-        if asked.options.bytes {
-            put_bytes(alloc, out, question, &claim)?;
+        Err(Refusal::OutOfMemory) => Err(Stop::Memory),
+        Err(refusal) => Ok(Answer::Refused(refusal)),
+    }
+}
+
+/// An answer that prints as the report has it: what is claimed, what is found, and the rows or the line of the file.
+#[derive(Clone, Copy)]
+pub struct Answered<'s, 't, 'u, 'a> {
+    pub asked: Asked<'s, 't>,
+    pub subject: Subject<'u>,
+    pub answer: &'a Answer,
+}
+
+impl fmt::Display for Answered<'_, '_, '_, '_> {
+    fn fmt<W: fmt::Write>(&self, f: &mut fmt::Formatter<W>) -> fmt::Result {
+        let (file, source) = (self.asked.file, self.asked.source);
+        let name = self.subject.name();
+        match self.answer {
+            Answer::Never => {
+                let settled = self.subject.settled();
+                writeln!(f, "  {name}: {settled}")
+            }
+            Answer::First(history) => {
+                let found = self.subject.found();
+                let count = history.modules;
+                let rows = Rows {
+                    names: &source.bits.names,
+                    history,
+                };
+                write!(f, "  {name}: {found} {count}\n{rows}")
+            }
+            Answer::TooLarge(most, None) => writeln!(
+                f,
+                "  {name}: too large: more than {most} classes are told apart at {file}, whatever its lines say"
+            ),
+            Answer::TooLarge(most, Some(span)) => {
+                let text = source.bits.text;
+                let place = position_of(text.as_bytes(), span.start);
+                let (line, column) = (place.line, place.column);
+                writeln!(
+                    f,
+                    "  {name}: too large: more than {most} classes are told apart at {file}:{line}:{column}"
+                )?;
+                let message = "with this, and what stands before it, it gets too large";
+                write!(f, "{}", beside(file, text, *span, message))
+            }
+            Answer::Refused(refusal) => writeln!(f, "  {name}: too large: {refusal}"),
         }
     }
-    Ok(picture)
 }

@@ -6,6 +6,7 @@ pub mod command;
 pub mod narrow;
 pub mod options;
 pub mod report;
+pub mod shown_claim;
 pub mod shown_rows;
 pub mod stop;
 pub mod subject;

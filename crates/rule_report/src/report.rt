@@ -1,7 +1,8 @@
 // The report of a rule file.
-use crate::answer::{Asked, put_answer};
+use crate::answer::{Answer, Answered, Asked, answer_to};
 use crate::options::Options;
-use crate::shown_rows::{Picture, draw, history, put_history};
+use crate::shown_claim::shown_claim;
+use crate::shown_rows::{Picture, Rows, draw, history};
 use crate::stop::Stop;
 use crate::subject::Subject;
 use rule_source::claimed::{Claim, claims_of};
@@ -17,67 +18,71 @@ pub struct Report {
     pub pictures: Vec<Picture>,
 }
 
-// The given rows, with the rows after them.
-fn put_rows(alloc: Global, report: &mut Report, asked: Asked<'_, '_>) -> Result<(), Stop> {
-    for (i, row) in asked.source.rows.iter().enumerate() {
-        report.text.push_str("  a given row\n")?;
-        let history = history(alloc, asked.source, &row.columns, asked.options.steps)?;
-        put_history(&mut report.text, asked.source, &history)?;
-        if asked.options.pictures {
-            let short = format!(in alloc; "row-{}", i + 1)?;
-            let picture = draw(
-                alloc,
-                asked.source,
-                asked.file,
-                "a given row",
-                short.as_str(),
-                &history,
-            )?;
-            report.pictures.push(picture)?;
+impl Report {
+    // Takes in the given rows, with the rows after them.
+    fn add_rows(&mut self, alloc: Global, asked: Asked<'_, '_>) -> Result<(), Stop> {
+        for (i, row) in asked.source.rows.iter().enumerate() {
+            let history = history(alloc, asked.source, &row.columns, asked.options.steps)?;
+            let rows = Rows {
+                names: &asked.source.bits.names,
+                history: &history,
+            };
+            write!(self.text, "  a given row\n{rows}")?;
+            if asked.options.pictures {
+                let short = format!(in alloc; "row-{}", i + 1)?;
+                let picture = draw(
+                    alloc,
+                    asked.source,
+                    asked.file,
+                    "a given row",
+                    short.as_str(),
+                    &history,
+                )?;
+                self.pictures.push(picture)?;
+            }
         }
+        Ok(())
     }
-    Ok(())
-}
 
-// A question more.
-fn put_question(
-    alloc: Global,
-    report: &mut Report,
-    asked: Asked<'_, '_>,
-    subject: &Subject<'_>,
-    question: &Question<'_>,
-) -> Result<(), Stop> {
-    if let Some(picture) = put_answer(alloc, &mut report.text, asked, subject, question)? {
-        report.pictures.push(picture)?;
+    // Takes in the answer to a question, its picture if one is wanted, and its claim as the options want it shown.
+    fn add_question(
+        &mut self,
+        alloc: Global,
+        asked: Asked<'_, '_>,
+        subject: &Subject<'_>,
+        question: &Question<'_>,
+    ) -> Result<(), Stop> {
+        let answer = answer_to(alloc, asked, subject, question)?;
+        let answered = Answered {
+            asked,
+            subject: *subject,
+            answer: &answer,
+        };
+        write!(self.text, "{answered}")?;
+        if asked.options.pictures
+            && let Answer::First(history) = &answer
+        {
+            let (name, short) = (subject.name(), subject.short());
+            let picture = draw(alloc, asked.source, asked.file, name, short, history)?;
+            self.pictures.push(picture)?;
+        }
+        let claim = shown_claim(alloc, asked, question)?;
+        self.text.push_str(claim.as_str())?;
+        Ok(())
     }
-    Ok(())
-}
 
-// A question that each rule gets.
-fn put_general(
-    alloc: Global,
-    report: &mut Report,
-    asked: Asked<'_, '_>,
-    subject: Subject<'_>,
-    property: Property,
-) -> Result<(), Stop> {
-    let source = asked.source;
-    let question = Question::new(alloc, &source.rule, property)?;
-    put_question(alloc, report, asked, &subject, &question)
-}
-
-// The claims of the file.
-fn put_claims(
-    alloc: Global,
-    report: &mut Report,
-    asked: Asked<'_, '_>,
-    claims: &[Claim<'_>],
-) -> Result<(), Stop> {
-    for claim in claims {
-        let subject = Subject::Claim(claim.put, claim.name, claim.statement);
-        put_question(alloc, report, asked, &subject, &claim.question)?;
+    // Takes in a question that each rule gets.
+    fn add_general(
+        &mut self,
+        alloc: Global,
+        asked: Asked<'_, '_>,
+        subject: Subject<'_>,
+        property: Property,
+    ) -> Result<(), Stop> {
+        let source = asked.source;
+        let question = Question::new(alloc, &source.rule, property)?;
+        self.add_question(alloc, asked, &subject, &question)
     }
-    Ok(())
 }
 
 // The report of a rule and its claims.
@@ -88,30 +93,15 @@ fn report_on(alloc: Global, asked: Asked<'_, '_>, claims: &[Claim<'_>]) -> Resul
         pictures: Vec::new(alloc),
     };
     if asked.options.steps > 0 || asked.options.pictures {
-        put_rows(alloc, &mut report, asked)?;
+        report.add_rows(alloc, asked)?;
     }
-    put_general(
-        alloc,
-        &mut report,
-        asked,
-        Subject::SomeAllowed,
-        Property::Allowed,
-    )?;
-    put_general(
-        alloc,
-        &mut report,
-        asked,
-        Subject::NoneStuck,
-        Property::Stuck,
-    )?;
-    put_general(
-        alloc,
-        &mut report,
-        asked,
-        Subject::AllowedKept,
-        Property::Left,
-    )?;
-    put_claims(alloc, &mut report, asked, claims)?;
+    report.add_general(alloc, asked, Subject::SomeAllowed, Property::Allowed)?;
+    report.add_general(alloc, asked, Subject::NoneStuck, Property::Stuck)?;
+    report.add_general(alloc, asked, Subject::AllowedKept, Property::Left)?;
+    for claim in claims {
+        let subject = Subject::Claim(claim.put, claim.name, claim.statement);
+        report.add_question(alloc, asked, &subject, &claim.question)?;
+    }
     Ok(report)
 }
 
@@ -150,7 +140,10 @@ pub fn report_file(
 ) -> Result<Result<Report, String>, AllocError> {
     match report_of(alloc, file, text, options) {
         Ok(report) => Ok(Ok(report)),
-        Err(Stop::File(fault)) => Ok(Err(fault.shown(alloc, file, text)?)),
+        Err(Stop::File(fault)) => {
+            let shown = fault.shown(file, text);
+            Ok(Err(format!(in alloc; "{shown}")?))
+        }
         Err(Stop::Claim(refusal)) => Ok(Err(format!(in alloc; "{file}: {refusal}\n")?)),
         Err(Stop::Memory) => Err(AllocError),
     }

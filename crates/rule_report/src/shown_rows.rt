@@ -3,10 +3,11 @@ ghost use Rattle.std.specs.Prelude.{◌≤◌};
 
 use diagram::history::History;
 use diagram::svg::{Diagram, svg};
-use marks::word::put_word;
+use display::marks::Marks;
 use rule_source::source::Source;
 use simulate::row::step;
 use std::alloc::{AllocError, Global};
+use std::fmt;
 
 /// A picture: its name, without a folder, and its SVG text.
 #[derive(Debug, Drop)]
@@ -30,20 +31,27 @@ pub fn history(
     Ok(history)
 }
 
-/// The rows as rows of marks, a line for each bit; before each but the first its step is told.
-pub fn put_history(
-    out: &mut String,
-    source: &Source<'_>,
-    history: &History,
-) -> Result<(), AllocError> {
-    for (t, row) in history.rows.iter().enumerate() {
-        if t > 0 {
-            let step = format!(in *out.allocator(); "    after step {t}\n")?;
-            out.push_str(step.as_str())?;
+/// Rows that print as rows of marks, a line for each bit; before each row but the first stands its step.
+#[derive(Clone, Copy)]
+pub struct Rows<'n, 't, 'h> {
+    pub names: &'n [&'t str],
+    pub history: &'h History,
+}
+
+impl fmt::Display for Rows<'_, '_, '_> {
+    fn fmt<W: fmt::Write>(&self, f: &mut fmt::Formatter<W>) -> fmt::Result {
+        for (t, row) in self.history.rows.iter().enumerate() {
+            if t > 0 {
+                writeln!(f, "    after step {t}")?;
+            }
+            let marks = Marks {
+                names: self.names,
+                word: row.as_slice(),
+            };
+            write!(f, "{marks}")?;
         }
-        put_word(out, &source.bits.names, row)?;
+        Ok(())
     }
-    Ok(())
 }
 
 // The last part of a path, without its ending.

@@ -1,10 +1,14 @@
 // What is wrong with a rule file, and how it is shown: FILE:LINE:COLUMN, what was expected and what stands there, and the line with a caret under the place.
+ghost use Rattle.std.specs.Prelude.{◌≡◌, ◌+◌, ◌≤◌, ◌==◌, length, take, count_by};
+ghost use Rattle.trees.specs.Position.{column_from};
+
+use display::beside::Beside;
 use rule_file::token::Token;
 use rules::known::Unsound;
-use std::alloc::{AllocError, AllocFailed, Global};
+use std::alloc::{AllocError, AllocFailed};
+use std::fmt;
 use std::str::from_utf8;
-use trees::shown::shown;
-use trees::position::{Span, position_of};
+use trees::position::{Span, line_at, position_of};
 
 /// Why a file gives no rule.
 #[derive(Debug, Drop)]
@@ -63,6 +67,101 @@ fn found(text: &str, span: Span) -> &str {
     from_utf8(span.of(text.as_bytes())).unwrap_or("what is no text")
 }
 
+/// A fault in words: what was expected, and what stands there in the text.
+#[derive(Clone, Copy, Debug)]
+pub struct Message<'f, 't> {
+    pub fault: &'f Fault,
+    pub text: &'t str,
+}
+
+impl fmt::Display for Message<'_, '_> {
+    fn fmt<W: fmt::Write>(&self, f: &mut fmt::Formatter<W>) -> fmt::Result {
+        let text = self.text;
+        match self.fault {
+            Fault::Form(fault) => write!(f, "{}", fault.message(text)),
+            Fault::Bit(token) => {
+                let word = found(text, token.span);
+                write!(f, "expected the name of a bit, found `{word}`")
+            }
+            Fault::NoBits => write!(f, "expected the name of a bit, found none"),
+            Fault::Unfit(span) => {
+                let word = found(text, *span);
+                write!(
+                    f,
+                    "expected a pattern that some module fits; because of `{word}` none fits this one"
+                )
+            }
+            Fault::Unreached(_, earlier) => {
+                let line = position_of(text.as_bytes(), earlier.start).line;
+                write!(
+                    f,
+                    "expected a line that is reached; line {line} fits wherever this one does"
+                )
+            }
+            Fault::Twice(token) => {
+                let word = found(text, token.span);
+                write!(
+                    f,
+                    "expected each bit once in a line, found `{word}` a second time"
+                )
+            }
+            Fault::TwiceInModule(token) => {
+                let word = found(text, token.span);
+                write!(
+                    f,
+                    "expected each bit once in a module, found `{word}` a second time"
+                )
+            }
+            Fault::NoClaim(span) => {
+                let word = found(text, *span);
+                write!(f, "expected `never` or `claim`, found `{word}`")
+            }
+            Fault::Formula(message, _) => write!(f, "{message}"),
+            Fault::Unsound(unsound) => write!(f, "{unsound}"),
+            Fault::Memory => write!(f, "there is not enough memory"),
+        }
+    }
+}
+
+/// A fault with its place: `FILE:LINE:COLUMN: message`, the line and a caret; without a place `FILE: message`.
+#[derive(Clone, Copy, Debug)]
+pub struct Shown<'p, 'f, 't> {
+    pub file: &'p str,
+    pub message: Message<'f, 't>,
+}
+
+impl fmt::Display for Shown<'_, '_, '_> {
+    fn fmt<W: fmt::Write>(&self, f: &mut fmt::Formatter<W>) -> fmt::Result {
+        let (file, message) = (self.file, self.message);
+        match message.fault.span(message.text) {
+            Some(span) => write!(f, "{}", beside(file, message.text, span, message)),
+            None => writeln!(f, "{file}: {message}"),
+        }
+    }
+}
+
+/// The message with its place in a text, which is where the span begins.
+pub fn beside<'f, 't, M: fmt::Display>(
+    file: &'f str,
+    text: &'t str,
+    span: Span,
+    message: M,
+) -> Beside<'f, 't, M>
+    ensures file { result.file.now ≡ file.now }
+    ensures line { span.start ≤ length text.now → result.line ≡ count_by (λ b. b == 10) (take span.start text.now) + 1 }
+    ensures column { span.start ≤ length text.now → result.column ≡ column_from 1 (take span.start text.now) }
+    ensures message { result.message ≡ message }
+{
+    let place = position_of(text.as_bytes(), span.start);
+    Beside {
+        file,
+        line: place.line,
+        column: place.column,
+        text: from_utf8(line_at(text.as_bytes(), span.start)).ok(),
+        message,
+    }
+}
+
 impl Fault {
     /// Where it stands in the text, if something in the text is at fault.
     pub fn span(&self, text: &str) -> Option<Span> {
@@ -77,53 +176,23 @@ impl Fault {
         }
     }
 
-    /// What was expected and what stands there, in words. Fails for memory alone.
-    pub fn message(&self, alloc: Global, text: &str) -> Result<String, AllocError> {
-        match self {
-            Fault::Form(fault) => fault.message(alloc, text),
-            Fault::Bit(token) => {
-                let word = found(text, token.span);
-                format!(in alloc; "expected the name of a bit, found `{word}`")
-            }
-            Fault::NoBits => String::from_str(alloc, "expected the name of a bit, found none"),
-            Fault::Unfit(span) => {
-                let word = found(text, *span);
-                format!(in alloc;
-                    "expected a pattern that some module fits; because of `{word}` none fits this one"
-                )
-            }
-            Fault::Unreached(_, earlier) => {
-                let line = position_of(text.as_bytes(), earlier.start).line;
-                format!(in alloc;
-                    "expected a line that is reached; line {line} fits wherever this one does"
-                )
-            }
-            Fault::Twice(token) => {
-                let word = found(text, token.span);
-                format!(in alloc; "expected each bit once in a line, found `{word}` a second time")
-            }
-            Fault::TwiceInModule(token) => {
-                let word = found(text, token.span);
-                format!(in alloc;
-                    "expected each bit once in a module, found `{word}` a second time"
-                )
-            }
-            Fault::NoClaim(span) => {
-                let word = found(text, *span);
-                format!(in alloc; "expected `never` or `claim`, found `{word}`")
-            }
-            Fault::Formula(message, _) => String::from_str(alloc, message.as_str()),
-            Fault::Unsound(unsound) => format!(in alloc; "{unsound}"),
-            Fault::Memory => String::from_str(alloc, "there is not enough memory"),
-        }
+    /// The fault in words, for the text in which it was found.
+    pub fn message<'f, 't>(&'f self, text: &'t str) -> Message<'f, 't>
+        ensures fault { result.fault.now ≡ self.now }
+        ensures text { result.text.now ≡ text.now }
+    {
+        Message { fault: self, text }
     }
 
-    /// The message with its place: `FILE:LINE:COLUMN: message`, the line and a caret; without a place `FILE: message`. Fails for memory alone.
-    pub fn shown(&self, alloc: Global, file: &str, text: &str) -> Result<String, AllocError> {
-        let message = self.message(alloc, text)?;
-        match self.span(text) {
-            Some(span) => shown(alloc, file, text.as_bytes(), span, message.as_str()),
-            None => format!(in alloc; "{file}: {message}\n"),
+    /// The fault with its place, for the file and the text in which it was found.
+    pub fn shown<'p, 'f, 't>(&'f self, file: &'p str, text: &'t str) -> Shown<'p, 'f, 't>
+        ensures file { result.file.now ≡ file.now }
+        ensures fault { result.message.fault.now ≡ self.now }
+        ensures text { result.message.text.now ≡ text.now }
+    {
+        Shown {
+            file,
+            message: self.message(text),
         }
     }
 }

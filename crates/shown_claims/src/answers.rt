@@ -1,27 +1,29 @@
 // Answers in one form: `never`, or the columns of the first row.
 use anyhow::bail;
+use display::columns::Columns;
 use rule_check::verdict::Verdict;
 use claim_report::report::{Form, Source, Wish, report};
 use std::alloc::Global;
 
 /// What is found of a rule of modules of so many bits. A module's column has the row's bit, too.
 pub fn answer_of(alloc: Global, bits: u8, verdict: &Verdict) -> anyhow::Result<String> {
-    let mut out = String::new(alloc);
     match verdict {
-        Verdict::Never => out.push_str("never")?,
-        Verdict::TooLarge(n) => return Ok(format!(in alloc; "more than {n} classes")?),
+        Verdict::Never => Ok(String::from_str(alloc, "never")?),
+        Verdict::TooLarge(n) => Ok(format!(in alloc; "more than {n} classes")?),
         Verdict::First(row) => {
-            out.push_str("first")?;
+            let mut word = Vec::new(alloc);
             for module in row {
                 if bits < 32 {
-                    let column = *module | 1u32 << bits;
-                    let word = format!(in alloc; " {column}")?;
-                    out.push_str(word.as_str())?;
+                    word.push(*module | 1u32 << bits)?;
                 }
             }
+            if word.is_empty() {
+                return Ok(String::from_str(alloc, "first")?);
+            }
+            let columns = Columns(&word);
+            Ok(format!(in alloc; "first {columns}")?)
         }
     }
-    Ok(out)
 }
 
 /// What comes of a text: an answer in the form above, with how many sets and bytes the claim takes that it is read as; or why there is none.

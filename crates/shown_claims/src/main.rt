@@ -45,14 +45,14 @@ fn show_all(rt: &HostRuntime, file: &str, source: &Source<'_>, texts: bool) -> a
             }
             Ok(())
         }
-        Err(fault) => refuse(rt, file, source.bits.text, &fault),
+        Err(fault) => refuse(file, source.bits.text, &fault),
     }
 }
 
 // Ends with the message of a file that is at fault.
-fn refuse(rt: &HostRuntime, file: &str, text: &str, fault: &Fault) -> anyhow::Result<()> {
-    let message = fault.shown(rt.alloc(), file, text)?;
-    bail!("{message}")
+fn refuse(file: &str, text: &str, fault: &Fault) -> anyhow::Result<()> {
+    let shown = fault.shown(file, text);
+    bail!("{shown}")
 }
 
 fn run(rt: &HostRuntime) -> anyhow::Result<()> {
@@ -66,7 +66,7 @@ fn run(rt: &HostRuntime) -> anyhow::Result<()> {
         let text = fs::read_to_string(rt, file)?;
         match source_of(rt.alloc(), text.as_str()) {
             Ok(source) => show_all(rt, file, &source, texts)?,
-            Err(fault) => refuse(rt, file, text.as_str(), &fault)?,
+            Err(fault) => refuse(file, text.as_str(), &fault)?,
         }
     }
     Ok(())

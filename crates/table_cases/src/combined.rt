@@ -2,7 +2,7 @@
 ghost use Rattle.std.specs.Prelude.{◌<◌, ◌≤◌};
 
 use crate::checked::{is_table, table};
-use crate::tell::tell_table;
+use crate::listing::Listing;
 use product::pairs::product;
 use std::io;
 use tables::complement::complement;
@@ -12,8 +12,12 @@ pub fn complement_case(rt: &HostRuntime) -> io::Result<()> {
     let rows = [0u32, 1, 1, 0];
     let mut accept = [1u32, 0];
     complement(&mut accept, 2);
-    print!(rt; "complement: ")?;
-    tell_table(rt, &rows, &accept, 2)
+    let listing = Listing {
+        rows: &rows,
+        accept: &accept,
+        classes: 2,
+    };
+    println!(rt; "complement: {listing}")
 }
 
 // The product of A and B, with at most `most` pairs.
@@ -29,7 +33,6 @@ pub fn product_case(rt: &HostRuntime, most: usize) -> io::Result<()>
     let b = table(&b_rows, &b_accept, 2, 1);
     let (mut rows, mut accept) = ([7u32; 64], [7u32; 64]);
     let (mut lefts, mut rights, mut index) = ([7u32; 64], [7u32; 64], [7u32; 64]);
-    print!(rt; "product, at most {most}: ")?;
     match product(
         a,
         b,
@@ -40,7 +43,14 @@ pub fn product_case(rt: &HostRuntime, most: usize) -> io::Result<()>
         &mut rights,
         &mut index,
     ) {
-        Some(classes) => tell_table(rt, &rows, &accept, classes),
-        None => println!(rt; "more"),
+        Some(classes) => {
+            let listing = Listing {
+                rows: &rows,
+                accept: &accept,
+                classes,
+            };
+            println!(rt; "product, at most {most}: {listing}")
+        }
+        None => println!(rt; "product, at most {most}: more"),
     }
 }

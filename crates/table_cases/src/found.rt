@@ -2,7 +2,7 @@
 ghost use Rattle.std.specs.Prelude.{ℕ, ◌<◌, ◌≤◌, length, slice_index};
 
 use crate::checked::{is_table, table};
-use crate::tell::tell_numbers;
+use crate::listing::{Listed, first_of};
 use firsts::first::first;
 use firsts::search::{Found, search};
 use firsts::spell::{word_length, write_word};
@@ -33,9 +33,8 @@ fn word_case(
     }
     let word = &mut out[0..n];
     write_word(prev, via, j, word);
-    print!(rt; "first {wanted}, length {n}:")?;
-    tell_numbers(rt, word, n)?;
-    println!(rt; "")
+    let word = Listed(word);
+    println!(rt; "first {wanted}, length {n}:{word}")
 }
 
 // The classes as they are found, up to the row with which one of each sort is found, and the two first words.
@@ -60,9 +59,8 @@ pub fn search_case<'a>(
         via,
         ..
     } = search(t, &mut queue, &mut number, &mut prev, &mut via);
-    print!(rt; "search:")?;
-    tell_numbers(rt, queue, found)?;
-    println!(rt; "")?;
+    let classes = Listed(first_of(queue, found));
+    println!(rt; "search:{classes}")?;
     word_case(rt, t.table, queue, prev, via, found, true)?;
     word_case(rt, t.table, queue, prev, via, found, false)
 }

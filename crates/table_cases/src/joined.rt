@@ -1,6 +1,6 @@
 // Classes that are alike joined.
 use crate::checked::{is_table, table};
-use crate::tell::{tell_numbers, tell_table};
+use crate::listing::{Listed, Listing, first_of};
 use joining::join::join;
 use joining::quotient::quotient;
 use std::io;
@@ -23,13 +23,15 @@ pub fn join_case(rt: &HostRuntime) -> io::Result<()> {
         &mut rights,
         &mut index,
     );
-    print!(rt; "join: parts")?;
-    tell_numbers(rt, &cls, 3)?;
-    print!(rt; ", firsts")?;
-    tell_numbers(rt, &firsts, n)?;
-    println!(rt; "")?;
+    let parts = Listed(&cls[..3]);
+    let part_firsts = Listed(first_of(&firsts, n));
+    println!(rt; "join: parts{parts}, firsts{part_firsts}")?;
     let (mut new_rows, mut new_accept) = ([7u32; 64], [7u32; 64]);
     quotient(t.table, &cls, &firsts, n, &mut new_rows, &mut new_accept);
-    print!(rt; "quotient: ")?;
-    tell_table(rt, &new_rows, &new_accept, n)
+    let listing = Listing {
+        rows: &new_rows,
+        accept: &new_accept,
+        classes: n,
+    };
+    println!(rt; "quotient: {listing}")
 }

@@ -1,7 +1,7 @@
 // The table of a claim without parts, and its dead class.
 ghost use Rattle.std.specs.Prelude.{◌≤◌};
 
-use crate::tell::tell_table;
+use crate::listing::Listing;
 use claims::atom::Atom;
 use leaves::leaf::leaf;
 use live::dead::dead;
@@ -16,7 +16,6 @@ pub fn leaf_case(rt: &HostRuntime, most: usize) -> io::Result<()>
     let (mut at, mut accepting) = ([7u32; 64], [7u32; 64]);
     let (mut cls, mut firsts, mut cur) = ([7u32; 64], [7u32; 64], [7u32; 64]);
     let (mut lefts, mut rights, mut index) = ([7u32; 64], [7u32; 64], [7u32; 128]);
-    print!(rt; "leaf, at most {most}: ")?;
     let Some(classes) = leaf(
         Atom::Single(0),
         1,
@@ -33,9 +32,14 @@ pub fn leaf_case(rt: &HostRuntime, most: usize) -> io::Result<()>
         &mut rights,
         &mut index,
     ) else {
-        return println!(rt; "more");
+        return println!(rt; "leaf, at most {most}: more");
     };
-    tell_table(rt, &rows, &accept, classes)?;
+    let listing = Listing {
+        rows: &rows,
+        accept: &accept,
+        classes,
+    };
+    println!(rt; "leaf, at most {most}: {listing}")?;
     let t = WordTable {
         table: Table {
             rows: &rows,

@@ -12,8 +12,8 @@ mod combined;
 mod found;
 mod joined;
 mod leaf_case;
+mod listing;
 mod projected;
-mod tell;
 
 use checked::is_table;
 use combined::{complement_case, product_case};

@@ -2,7 +2,7 @@
 ghost use Rattle.std.specs.Prelude.{◌<◌, ◌≤◌, length};
 
 use crate::checked::{is_table, table};
-use crate::tell::{tell_numbers, tell_table};
+use crate::listing::{Listed, Listing, first_of};
 use live::beyond::beyond;
 use std::io;
 use subsets::projection::subsets;
@@ -34,9 +34,8 @@ pub fn beyond_case<'a>(
         &mut links1,
         &mut queue,
     );
-    print!(rt; "beyond:")?;
-    tell_numbers(rt, &completed, classes)?;
-    println!(rt; "")
+    let completed = Listed(first_of(&completed, classes));
+    println!(rt; "beyond:{completed}")
 }
 
 // The table of the sets of classes without the dead one, with at most `most` sets.
@@ -58,7 +57,6 @@ pub fn subsets_case<'a>(
     let (mut new_rows, mut new_accept) = ([7u32; 64], [7u32; 64]);
     let (mut sets, mut heads) = ([7u32; 64], [7u32; 4]);
     let (mut links, mut buckets) = ([7u32; 64], [7u32; 64]);
-    print!(rt; "subsets, at most {most}: ")?;
     match subsets(
         t,
         Set(0),
@@ -72,7 +70,14 @@ pub fn subsets_case<'a>(
         &mut links,
         &mut buckets,
     ) {
-        Some(count) => tell_table(rt, &new_rows, &new_accept, count),
-        None => println!(rt; "more"),
+        Some(count) => {
+            let listing = Listing {
+                rows: &new_rows,
+                accept: &new_accept,
+                classes: count,
+            };
+            println!(rt; "subsets, at most {most}: {listing}")
+        }
+        None => println!(rt; "subsets, at most {most}: more"),
     }
 }

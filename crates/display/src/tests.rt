@@ -1,0 +1,77 @@
+// What is printed, beside texts that were written by hand.
+use crate::beside::Beside;
+use crate::columns::Columns;
+use crate::hex::Hex;
+use crate::marks::Marks;
+use std::test::Fail;
+
+#[test]
+fn bytes_are_pairs_of_digits(rt: HostRuntime) -> Result<(), Fail> {
+    let text = format!(in rt.alloc(); "{}|{}", Hex(&[0, 15, 160, 255]), Hex(&[]))?;
+    assert_eq!(rt; text.as_str(), "000fa0ff|");
+    Ok(())
+}
+
+#[test]
+fn columns_have_one_space_between(rt: HostRuntime) -> Result<(), Fail> {
+    let text = format!(in rt.alloc();
+        "{}|{}|{}",
+        Columns(&[3, 0, 4294967295]),
+        Columns(&[7]),
+        Columns(&[])
+    )?;
+    assert_eq!(rt; text.as_str(), "3 0 4294967295|7|");
+    Ok(())
+}
+
+#[test]
+fn rows_stand_under_a_ruler(rt: HostRuntime) -> Result<(), Fail> {
+    let short = Marks {
+        names: &["left", "b"],
+        word: &[1, 2, 3],
+    };
+    let text = format!(in rt.alloc(); "{short}")?;
+    assert_eq!(rt; text.as_str(), "         012\n    left #.#\n    b    .##\n");
+    let long = Marks {
+        names: &["x"],
+        word: &[1, 0, 0, 0, 0, 0, 0, 0, 0, 0, 1, 0],
+    };
+    let text = format!(in rt.alloc(); "{long}")?;
+    assert_eq!(rt;
+        text.as_str(),
+        "      0         10\n      012345678901\n    x #.........#.\n"
+    );
+    let none = Marks {
+        names: &["x"],
+        word: &[],
+    };
+    let text = format!(in rt.alloc(); "{none}")?;
+    assert_eq!(rt; text.as_str(), "");
+    Ok(())
+}
+
+#[test]
+fn a_caret_stands_under_the_column(rt: HostRuntime) -> Result<(), Fail> {
+    let beside = Beside {
+        file: "rule.txt",
+        line: 2,
+        column: 3,
+        text: Some("a\tb"),
+        message: "expected a name",
+    };
+    let text = format!(in rt.alloc(); "{beside}")?;
+    assert_eq!(rt;
+        text.as_str(),
+        "rule.txt:2:3: expected a name\n    a\tb\n     \t^\n"
+    );
+    let alone = Beside {
+        file: "rule.txt",
+        line: 1,
+        column: 1,
+        text: None,
+        message: 5u32,
+    };
+    let text = format!(in rt.alloc(); "{alone}")?;
+    assert_eq!(rt; text.as_str(), "rule.txt:1:1: 5\n");
+    Ok(())
+}

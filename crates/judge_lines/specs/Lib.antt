@@ -1,0 +1,2 @@
+-- What the line tool prints.
+pub mod Answers

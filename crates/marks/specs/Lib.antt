@@ -1,2 +1,0 @@
--- The marks of a set's places.
-pub mod Marks
