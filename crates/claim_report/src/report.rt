@@ -14,7 +14,7 @@ use solve::question::question_of;
 use std::alloc::{AllocError, Global};
 use syntax::parse::read;
 use trees::position::position_of;
-use trees::shown::shown;
+use trees::beside::beside;
 use trees::tree::Item;
 
 /// How an answer is shown: in words, with first words as rows of marks, or in one line, words as numbers.
@@ -56,13 +56,8 @@ fn place(alloc: Global, source: Source<'_>, items: &[Item], most: u32) -> Result
     let place = position_of(source.text, span.start);
     let line = place.line;
     let column = place.column;
-    let beside = shown(
-        alloc,
-        file,
-        source.text,
-        span,
-        "here the innermost part begins that is too large by itself",
-    )?;
+    let message = "here the innermost part begins that is too large by itself";
+    let beside = beside(file, source.text, span, message);
     Ok(format!(in alloc; " at {file}:{line}:{column}\n{beside}")?)
 }
 

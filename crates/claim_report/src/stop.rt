@@ -1,7 +1,7 @@
 // Why a text gets no answer.
 use std::alloc::{AllocError, AllocFailed, Global};
 use trees::position::Span;
-use trees::shown::shown;
+use trees::beside::beside;
 
 /// Why a text gets no answer: it cannot be read, or what is read gets none.
 #[derive(Debug, Drop)]
@@ -44,7 +44,10 @@ fn placed(
     message: &str,
 ) -> Result<String, AllocError> {
     match span {
-        Some(span) => shown(alloc, file, text, span, message),
+        Some(span) => {
+            let beside = beside(file, text, span, message);
+            format!(in alloc; "{beside}")
+        }
         None => format!(in alloc; "{file}: {message}\n"),
     }
 }

@@ -35,12 +35,12 @@ impl fmt::Display for Subject {
 
 /// A word as rows of marks, or that it has no places.
 #[derive(Clone, Copy, Debug)]
-struct Word<'a, 't> {
-    names: &'a [&'t str],
-    word: &'a [u32],
+struct Word<'n, 't, 'w> {
+    names: &'n [&'t str],
+    word: &'w [u32],
 }
 
-impl fmt::Display for Word<'_, '_> {
+impl fmt::Display for Word<'_, '_, '_> {
     ghost output = { λ w. Some (word_of (map (λ name. name.now) w.names.now) w.word.now) };
 
     fn fmt<W: fmt::Write>(&self, f: &mut fmt::Formatter<W>) -> fmt::Result {
@@ -61,14 +61,14 @@ impl fmt::Display for Word<'_, '_> {
 
 // The two first words of an answer: of which it holds, and of which it does not.
 #[derive(Clone, Copy, Debug)]
-struct Both<'a, 't> {
+struct Both<'n, 't, 'a> {
     subject: Subject,
-    names: &'a [&'t str],
+    names: &'n [&'t str],
     first: &'a [u32],
     second: &'a [u32],
 }
 
-impl fmt::Display for Both<'_, '_> {
+impl fmt::Display for Both<'_, '_, '_> {
     ghost output = { λ b. Some (both_of b.subject (map (λ name. name.now) b.names.now) b.first.now b.second.now) };
 
     fn fmt<W: fmt::Write>(&self, f: &mut fmt::Formatter<W>) -> fmt::Result {
@@ -91,13 +91,13 @@ impl fmt::Display for Both<'_, '_> {
 
 /// An answer in words, with first words as rows of marks. Where it is too large that is all that is said.
 #[derive(Clone, Copy, Debug)]
-pub struct Told<'a, 't> {
+pub struct Told<'n, 't, 'a> {
     pub subject: Subject,
-    pub names: &'a [&'t str],
+    pub names: &'n [&'t str],
     pub answer: &'a Answer,
 }
 
-impl fmt::Display for Told<'_, '_> {
+impl fmt::Display for Told<'_, '_, '_> {
     ghost output = { λ t. Some (told_of t.subject (map (λ name. name.now) t.names.now) t.answer.now) };
 
     fn fmt<W: fmt::Write>(&self, f: &mut fmt::Formatter<W>) -> fmt::Result {

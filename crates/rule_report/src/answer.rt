@@ -8,11 +8,11 @@ use claims::encode::Refusal;
 use diagram::history::History;
 use rule_check::first_row::first_row;
 use rule_check::verdict::Verdict;
-use rule_source::fault::beside;
 use rule_source::source::Source;
 use rules::question::Question;
 use std::alloc::Global;
 use std::fmt;
+use trees::beside::beside;
 use trees::position::{Span, position_of};
 
 /// A rule file with its name, and how its report is wanted.
@@ -97,7 +97,7 @@ impl fmt::Display for Answered<'_, '_, '_, '_> {
                     "  {name}: too large: more than {most} classes are told apart at {file}:{line}:{column}"
                 )?;
                 let message = "with this, and what stands before it, it gets too large";
-                write!(f, "{}", beside(file, text, *span, message))
+                write!(f, "{}", beside(file, text.as_bytes(), *span, message))
             }
             Answer::Refused(refusal) => writeln!(f, "  {name}: too large: {refusal}"),
         }

@@ -1,14 +1,11 @@
 // What is wrong with a rule file, and how it is shown: FILE:LINE:COLUMN, what was expected and what stands there, and the line with a caret under the place.
-ghost use Rattle.std.specs.Prelude.{◌≡◌, ◌+◌, ◌≤◌, ◌==◌, length, take, count_by};
-ghost use Rattle.trees.specs.Position.{column_from};
-
-use display::beside::Beside;
 use rule_file::token::Token;
 use rules::known::Unsound;
 use std::alloc::{AllocError, AllocFailed};
 use std::fmt;
 use std::str::from_utf8;
-use trees::position::{Span, line_at, position_of};
+use trees::beside::beside;
+use trees::position::{Span, position_of};
 
 /// Why a file gives no rule.
 #[derive(Debug, Drop)]
@@ -134,31 +131,9 @@ impl fmt::Display for Shown<'_, '_, '_> {
     fn fmt<W: fmt::Write>(&self, f: &mut fmt::Formatter<W>) -> fmt::Result {
         let (file, message) = (self.file, self.message);
         match message.fault.span(message.text) {
-            Some(span) => write!(f, "{}", beside(file, message.text, span, message)),
+            Some(span) => write!(f, "{}", beside(file, message.text.as_bytes(), span, message)),
             None => writeln!(f, "{file}: {message}"),
         }
-    }
-}
-
-/// The message with its place in a text, which is where the span begins.
-pub fn beside<'f, 't, M: fmt::Display>(
-    file: &'f str,
-    text: &'t str,
-    span: Span,
-    message: M,
-) -> Beside<'f, 't, M>
-    ensures file { result.file.now ≡ file.now }
-    ensures line { span.start ≤ length text.now → result.line ≡ count_by (λ b. b == 10) (take span.start text.now) + 1 }
-    ensures column { span.start ≤ length text.now → result.column ≡ column_from 1 (take span.start text.now) }
-    ensures message { result.message ≡ message }
-{
-    let place = position_of(text.as_bytes(), span.start);
-    Beside {
-        file,
-        line: place.line,
-        column: place.column,
-        text: from_utf8(line_at(text.as_bytes(), span.start)).ok(),
-        message,
     }
 }
 

@@ -4,7 +4,7 @@
 use std::alloc::{AllocError, Global};
 use std::io::{BufRead, BufReader};
 use syntax::fault::Fault;
-use trees::shown::shown;
+use trees::beside::beside;
 use syntax::parse::read;
 use syntax::print::{Style, items};
 
@@ -12,7 +12,10 @@ use syntax::print::{Style, items};
 fn shown_fault(heap: Global, text: &[u8], fault: &Fault) -> Result<String, AllocError> {
     let message = fault.message(heap, text)?;
     match fault.span() {
-        Some(span) => shown(heap, "case", text, span, message.as_str()),
+        Some(span) => {
+            let beside = beside("case", text, span, message.as_str());
+            format!(in heap; "{beside}")
+        }
         None => Ok(message),
     }
 }

@@ -1,6 +1,6 @@
-// The tree of a claim's text, where its parts stand, and how a message is shown beside its line.
+// The tree of a claim's text, where its parts stand, and a message beside the line that it is about.
 #![tactic(auto)]
 
+pub mod beside;
 pub mod position;
-pub mod shown;
 pub mod tree;
