@@ -13,13 +13,13 @@ use Rattle.formulas.specs.declared.formula.Formula.{Formula}
 use Rattle.formulas.specs.Meaning.{Env, Meaning}
 use Rattle.formulas.specs.Names.{Among}
 use Rattle.formulas.proofs.NamesLaws.{name_tells}
-use Rattle.translating.specs.Numbers.{Numbering}
-use Rattle.translating.specs.Translation.{claim}
-use Rattle.translating.specs.Settles.{Singles, Covers}
-use Rattle.translating.proofs.Families.{with_set, with_set_sets}
-use Rattle.translating.proofs.Standing.{Stands}
-use Rattle.translating.proofs.Formulas.{of_words}
-use Rattle.translating.proofs.SettlesLaws.{singles_says, settles}
+use Rattle.translation.specs.Numbers.{Numbering}
+use Rattle.translation.specs.Translation.{claim}
+use Rattle.translation.specs.Settles.{Singles, Covers}
+use Rattle.translation.proofs.Families.{with_set, with_set_sets}
+use Rattle.translation.proofs.Standing.{Stands}
+use Rattle.translation.proofs.Formulas.{of_words}
+use Rattle.translation.proofs.SettlesLaws.{singles_says, settles}
 use Rattle.formula_claims.specs.Claimed.{Claimed, Gives, whole, sets_needed, bytes_needed}
 use Rattle.formula_claims.specs.Lengths.{formula_length, places_length}
 use Rattle.formula_claims.specs.Listed.{listed}

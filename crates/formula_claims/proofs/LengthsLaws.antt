@@ -11,9 +11,9 @@ use Rattle.formulas.specs.declared.formula.Place.TheVariants.{Named as place, Fi
 use Rattle.formulas.specs.declared.formula.Group.TheVariants.{Named as group, Empty, Only', Union', Inter', Minus'}
 use Rattle.formulas.specs.declared.formula.Formula.TheVariants.{True, Same, Less, In, Sub, Not', And', Or', Implies', Some1', All1', Some2', All2'}
 use Rattle.formulas.specs.Names.{names_place, names_group, names, without}
-use Rattle.translating.specs.Numbers.{Numbering, numbered, numbers, fresh}
-use Rattle.translating.specs.Translation.{some_place, lies, is_before, is_end, about, behind, is_place, is_in, is_same, each_in, set_within, is_within, claim}
-use Rattle.translating.specs.Settles.{singles}
+use Rattle.translation.specs.Numbers.{Numbering, numbered, numbers, fresh}
+use Rattle.translation.specs.Translation.{some_place, lies, is_before, is_end, about, behind, is_place, is_in, is_same, each_in, set_within, is_within, claim}
+use Rattle.translation.specs.Settles.{singles}
 use Rattle.formula_claims.specs.Lengths.{about_length, behind_length, place_length, group_length, same_length, set_within_length, within_length, formula_length, places_length}
 
 abbrev bytes : C → ℕ

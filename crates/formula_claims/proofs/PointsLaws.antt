@@ -3,8 +3,8 @@ use Rattle.std.proofs.Common.{◌≡◌, ℕ, refl}
 use Rattle.claims.specs.Claims.{C}
 use Rattle.formulas.specs.declared.formula.Place.{Place}
 use Rattle.formulas.specs.declared.formula.Place.TheVariants.{Named, Succ'}
-use Rattle.translating.specs.Numbers.{Numbering}
-use Rattle.translating.specs.Translation.{about}
+use Rattle.translation.specs.Numbers.{Numbering}
+use Rattle.translation.specs.Translation.{about}
 use Rattle.formula_claims.specs.Points.{set_of, about_set}
 
 pub about_set_is : (ρ : Numbering) (t : Place) (m : ℕ) (is_t : C) (c : ℕ → C) → about_set t m is_t (c (set_of ρ t m)) ≡ about ρ t m is_t c

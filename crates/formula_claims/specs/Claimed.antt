@@ -9,8 +9,8 @@ use Rattle.formulas.specs.declared.name.Name.TheVariants.{OfPlace, OfGroup}
 use Rattle.formulas.specs.declared.formula.Formula.{Formula}
 use Rattle.formulas.specs.Meaning.{Env, Meaning}
 use Rattle.formulas.specs.Names.{names, Among}
-use Rattle.translating.specs.Translation.{claim}
-use Rattle.translating.specs.Settles.{singles, Singles, env_of, Covers}
+use Rattle.translation.specs.Translation.{claim}
+use Rattle.translation.specs.Settles.{singles, Singles, env_of, Covers}
 use Rattle.formula_claims.specs.declared.claimed.Refusal.{Refusal}
 use Rattle.formula_claims.specs.declared.claimed.Refusal.TheVariants.{Unlisted}
 use Rattle.formula_claims.specs.declared.claimed.Refusal.TheVariants as refusal

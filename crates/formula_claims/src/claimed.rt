@@ -1,7 +1,7 @@
 // The bytes of a formula's claim, or why there are none.
 ghost use Rattle.std.specs.Prelude.{◌≡◌, ◌+◌, min, MatchResult, MatchOption, IfOk};
 ghost use Rattle.formulas.specs.Names.{Among};
-ghost use Rattle.translating.specs.Settles.{singles};
+ghost use Rattle.translation.specs.Settles.{singles};
 ghost use Rattle.claims.specs.declared.encode.Refusal.TheVariants.{OutOfMemory};
 ghost use Rattle.formula_claims.specs.declared.claimed.Refusal.TheVariants.{Claim};
 ghost use Rattle.claims.specs.Trees.{said};

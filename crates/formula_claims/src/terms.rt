@@ -1,8 +1,8 @@
 // What claims say of terms: that a set is the place, or in the set, that a term means.
 ghost use Rattle.std.specs.Prelude.{◌≡◌, [], ◌∷◌, IfOk};
 ghost use Rattle.formulas.specs.Names.{names_place, names_group};
-ghost use Rattle.translating.specs.Numbers.{numbers, fresh};
-ghost use Rattle.translating.specs.Translation;
+ghost use Rattle.translation.specs.Numbers.{numbers, fresh};
+ghost use Rattle.translation.specs.Translation;
 ghost use Rattle.claims.specs.Trees.{said};
 ghost use Rattle.formula_claims.specs.Scope.{number_of};
 ghost use Rattle.formula_claims.specs.Points;

@@ -2,8 +2,8 @@
 ghost use Rattle.std.specs.Prelude.{◌≡◌, [], ◌∷◌, ◌++◌, IfOk};
 ghost use Rattle.claims.specs.Claims.{not1, and1};
 ghost use Rattle.formulas.specs.Names.{names_place, names_group, names, without};
-ghost use Rattle.translating.specs.Numbers.{numbers, fresh};
-ghost use Rattle.translating.specs.Translation;
+ghost use Rattle.translation.specs.Numbers.{numbers, fresh};
+ghost use Rattle.translation.specs.Translation;
 ghost use Rattle.claims.specs.Trees.{said};
 ghost use Rattle.formula_claims.specs.Scope.{number_of};
 

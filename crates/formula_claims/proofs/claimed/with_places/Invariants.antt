@@ -1,5 +1,5 @@
 use Rattle.std.proofs.Common.{◌≡◌, drop}
-use Rattle.translating.specs.Settles.{singles}
+use Rattle.translation.specs.Settles.{singles}
 use Rattle.claims.specs.Trees.{said}
 use Rattle.formula_claims.specs.Listed.{listed}
 use Rattle.formula_claims.proofs.claimed.with_places.Given as goal

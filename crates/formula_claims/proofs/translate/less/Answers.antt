@@ -2,8 +2,8 @@ use Rattle.std.proofs.Common.{ℕ, ◌∷◌, ◌++◌, arith}
 use Rattle.std.proofs.lemmas.Grind.{common_steps}
 use Rattle.formulas.specs.Names.{names_place}
 use Rattle.claims.specs.Claims.{before}
-use Rattle.translating.specs.Numbers.{numbers, fresh}
-use Rattle.translating.specs.Translation.{about, is_place}
+use Rattle.translation.specs.Numbers.{numbers, fresh}
+use Rattle.translation.specs.Translation.{about, is_place}
 use Rattle.formula_claims.specs.Scope.{number_of}
 use Rattle.formula_claims.specs.Points.{set_of}
 use Rattle.formula_claims.proofs.PointsLaws.{about_set_is}

@@ -1,8 +1,8 @@
 use Rattle.std.proofs.Common.{◌++◌, arith}
 use Rattle.std.proofs.lemmas.Grind.{common_steps}
 use Rattle.formulas.specs.Names.{names_place, names_group}
-use Rattle.translating.specs.Numbers.{numbers, fresh}
-use Rattle.translating.specs.Translation.{is_place, is_in}
+use Rattle.translation.specs.Numbers.{numbers, fresh}
+use Rattle.translation.specs.Translation.{is_place, is_in}
 use Rattle.formula_claims.specs.Scope.{number_of}
 use Rattle.formula_claims.proofs.PointsLaws.{about_set_is}
 use Rattle.formula_claims.proofs.translate.lies_in.Goals as goal

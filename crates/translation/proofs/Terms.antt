@@ -14,12 +14,12 @@ use Rattle.formulas.specs.Sets.{lowest, highest}
 use Rattle.formulas.specs.Meaning.{Env, value, members}
 use Rattle.formulas.specs.Names.{names_place, names_group, Among}
 use Rattle.formulas.proofs.SetsLaws.{mix_has, or_true, and_true, but_true, one_says, prev_says, Extreme, Below, Above, lowest_says, highest_says}
-use Rattle.translating.specs.Numbers.{Numbering, numbers, fresh}
-use Rattle.translating.specs.Translation.{some_place, lies, is_first, is_before, is_end, about, behind, is_place, is_in}
-use Rattle.translating.proofs.NumbersLaws.{fresh_free}
-use Rattle.translating.proofs.Families.{Family, Agree, family_put, put_agree, only_agree}
-use Rattle.translating.proofs.Standing.{Stand, stand_left, stand_right, stand_agree}
-use Rattle.translating.proofs.Connectives.{next_says, before_says, lies_says, at_says, iff_trans, iff_not, iff_and, or_says, some_place_says, first_says}
+use Rattle.translation.specs.Numbers.{Numbering, numbers, fresh}
+use Rattle.translation.specs.Translation.{some_place, lies, is_first, is_before, is_end, about, behind, is_place, is_in}
+use Rattle.translation.proofs.NumbersLaws.{fresh_free}
+use Rattle.translation.proofs.Families.{Family, Agree, family_put, put_agree, only_agree}
+use Rattle.translation.proofs.Standing.{Stand, stand_left, stand_right, stand_agree}
+use Rattle.translation.proofs.Connectives.{next_says, before_says, lies_says, at_says, iff_trans, iff_not, iff_and, or_says, some_place_says, first_says}
 
 pub fresh_head : (n : ℕ) (l : List ℕ) → n ≡ fresh (n ∷ l) → ⊥
 fresh_head n l q = fresh_free (n ∷ l) (inl (sym q))

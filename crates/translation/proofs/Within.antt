@@ -14,13 +14,13 @@ use Rattle.formulas.specs.Meaning.{Env, members, Meaning}
 use Rattle.formulas.specs.Names.{names_group, Among}
 use Rattle.formulas.proofs.NamesLaws.{among_left, among_right, among_either}
 use Rattle.formulas.proofs.SetsLaws.{true_stable, mix_has, or_true, and_true}
-use Rattle.translating.specs.Numbers.{Numbering, numbers}
-use Rattle.translating.specs.Translation.{is_in, each_in, set_within, is_within}
-use Rattle.translating.proofs.NumbersLaws.{among_part}
-use Rattle.translating.proofs.Families.{Family, Agree, put_agree}
-use Rattle.translating.proofs.Standing.{Stand, stand_left, stand_right, stand_agree}
-use Rattle.translating.proofs.Connectives.{iff_trans, iff_not, iff_and, some_place_says}
-use Rattle.translating.proofs.Terms.{group_says}
+use Rattle.translation.specs.Numbers.{Numbering, numbers}
+use Rattle.translation.specs.Translation.{is_in, each_in, set_within, is_within}
+use Rattle.translation.proofs.NumbersLaws.{among_part}
+use Rattle.translation.proofs.Families.{Family, Agree, put_agree}
+use Rattle.translation.proofs.Standing.{Stand, stand_left, stand_right, stand_agree}
+use Rattle.translation.proofs.Connectives.{iff_trans, iff_not, iff_and, some_place_says}
+use Rattle.translation.proofs.Terms.{group_says}
 
 -- parts of lists of names
 in_left : (x : ℕ) (k l : List Name) (y : Name) → Among y (OfGroup x ∷ k) → Among y (OfGroup x ∷ (k ++ l))

@@ -8,8 +8,8 @@ use Rattle.formulas.specs.declared.formula.Formula.{Formula}
 use Rattle.formulas.specs.Sets.{lowest}
 use Rattle.formulas.specs.Meaning.{Env, Meaning}
 use Rattle.formulas.specs.Names.{names, Among}
-use Rattle.translating.specs.Numbers.{Numbering}
-use Rattle.translating.specs.Translation.{claim}
+use Rattle.translation.specs.Numbers.{Numbering}
+use Rattle.translation.specs.Translation.{claim}
 
 -- c, and that the names of places in l are places
 abbrev pub singles : Numbering → List Name → C → C

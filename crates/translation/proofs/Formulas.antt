@@ -11,14 +11,14 @@ use Rattle.formulas.specs.declared.formula.Formula.TheVariants.{True, Same, Less
 use Rattle.formulas.specs.Meaning.{Env, with_place, with_group, value, members, Meaning}
 use Rattle.formulas.specs.Names.{names_place, names_group, names, without, Among}
 use Rattle.formulas.proofs.NamesLaws.{among_left}
-use Rattle.translating.specs.Numbers.{Numbering, numbered, numbers, fresh}
-use Rattle.translating.specs.Translation.{about, is_place, is_in, claim}
-use Rattle.translating.proofs.NumbersLaws.{among_part, fresh_free}
-use Rattle.translating.proofs.Families.{Family, Agree, family_put, put_agree, only_agree}
-use Rattle.translating.proofs.Standing.{Stand, stand_left, stand_right, stand_agree, stand_bind, place_other, group_other, place_here, group_here}
-use Rattle.translating.proofs.Connectives.{before_says, iff_not, iff_and, or_says, implies_says, some_place_says, all_place_says, all_says}
-use Rattle.translating.proofs.Terms.{fresh_head, fresh_tail, about_says, sure_place, place_says, group_says}
-use Rattle.translating.proofs.Within.{within_says}
+use Rattle.translation.specs.Numbers.{Numbering, numbered, numbers, fresh}
+use Rattle.translation.specs.Translation.{about, is_place, is_in, claim}
+use Rattle.translation.proofs.NumbersLaws.{among_part, fresh_free}
+use Rattle.translation.proofs.Families.{Family, Agree, family_put, put_agree, only_agree}
+use Rattle.translation.proofs.Standing.{Stand, stand_left, stand_right, stand_agree, stand_bind, place_other, group_other, place_here, group_here}
+use Rattle.translation.proofs.Connectives.{before_says, iff_not, iff_and, or_says, implies_says, some_place_says, all_place_says, all_says}
+use Rattle.translation.proofs.Terms.{fresh_head, fresh_tail, about_says, sure_place, place_says, group_says}
+use Rattle.translation.proofs.Within.{within_says}
 
 same_other : (p q : Place) (ρ : Numbering) (e : Env) (m : ℕ) (v : Sets) → Family v → Stand v ρ e (names_place p ++ names_place q) → (Among m (numbers ρ (names_place p ++ names_place q)) → ⊥) →
     Holds (about ρ q m (is_place q ρ m) (λ b. is_place p ρ b)) v ↔ (value p e ≡ value q e)

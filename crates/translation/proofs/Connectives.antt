@@ -4,8 +4,8 @@ use Rattle.words.specs.Words.{Sets}
 use Rattle.claims.specs.Claims.{C, before, next, within, Holds, Only, put}
 use Rattle.claims.specs.Places.{one}
 use Rattle.claims.proofs.PlacesLaws.{only_one}
-use Rattle.translating.specs.Translation.{or1, implies1, some_place, all_places, all_sets, lies, is_first}
-use Rattle.translating.proofs.Families.{Family, Agree, family_put, holds_or_not, put_agree, only_agree}
+use Rattle.translation.specs.Translation.{or1, implies1, some_place, all_places, all_sets, lies, is_first}
+use Rattle.translation.proofs.Families.{Family, Agree, family_put, holds_or_not, put_agree, only_agree}
 
 -- what claims say of places
 pub next_says : (v : Sets) (a b i j : ℕ) → Only v a i → Only v b j → Holds (next a b) v ↔ (j ≡ suc i)

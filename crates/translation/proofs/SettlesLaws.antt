@@ -7,11 +7,11 @@ use Rattle.formulas.specs.declared.name.Name.TheVariants.{OfPlace, OfGroup}
 use Rattle.formulas.specs.Sets.{lowest}
 use Rattle.formulas.specs.Meaning.{Meaning}
 use Rattle.formulas.proofs.SetsLaws.{lowest_says}
-use Rattle.translating.specs.Numbers.{Numbering}
-use Rattle.translating.specs.Translation.{claim}
-use Rattle.translating.specs.Settles.{singles, Singles, env_of, Settles}
-use Rattle.translating.proofs.Standing.{Stand}
-use Rattle.translating.proofs.Formulas.{of_words}
+use Rattle.translation.specs.Numbers.{Numbering}
+use Rattle.translation.specs.Translation.{claim}
+use Rattle.translation.specs.Settles.{singles, Singles, env_of, Settles}
+use Rattle.translation.proofs.Standing.{Stand}
+use Rattle.translation.proofs.Formulas.{of_words}
 
 has_sets : (x : ℕ) (v : Word) (i : ℕ) → has (map (bit x) v) i ≡ sets v x i
 has_sets x [] i = refl

@@ -9,7 +9,7 @@ use Rattle.formulas.specs.declared.formula.Place.TheVariants.{Named as place, Fi
 use Rattle.formulas.specs.declared.formula.Group.TheVariants.{Named as group, Empty, Only', Union', Inter', Minus'}
 use Rattle.formulas.specs.declared.formula.Formula.TheVariants.{True, Same, Less, In, Sub, Not', And', Or', Implies', Some1', All1', Some2', All2'}
 use Rattle.formulas.specs.Names.{names_place, names_group, names, without}
-use Rattle.translating.specs.Numbers.{Numbering, numbered, numbers, fresh}
+use Rattle.translation.specs.Numbers.{Numbering, numbered, numbers, fresh}
 
 abbrev pub or1 : C → C → C
 or1 c d = not1 (and1 (not1 c) (not1 d))
