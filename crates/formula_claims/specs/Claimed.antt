@@ -16,9 +16,9 @@ use Rattle.formula_claims.specs.declared.claimed.Refusal.TheVariants.{Unlisted}
 use Rattle.formula_claims.specs.declared.claimed.Refusal.TheVariants as refusal
 use Rattle.formula_claims.specs.Listed.{listed}
 
--- the claim: that the listed places are places, and what the formula says, each name being the set with its place in the list for a number
+-- the claim: that the listed places are places, where what the formula says does not say so already, and that; each name being the set with its place in the list for a number
 abbrev pub whole : List Name → Formula → C
-whole l a = singles (listed l) l (claim a (listed l))
+whole l a = singles (listed l) a l (claim a (listed l))
 
 -- how many sets it is about: at least those of the list, and one
 abbrev pub sets_needed : List Name → Formula → ℕ
