@@ -1,6 +1,7 @@
 -- Where the claim of a formula, or of its opposite, is said to be sure of a place, it holds only if the place's set is a place.
-use Rattle.std.proofs.Common.{◌≡◌, ℕ, Bool, true, false, not, ◌&&◌, ◌||◌, ◌==◌, ◌∷◌, ◌++◌, sym, refl, ap, ◌∙◌, subst, inl, inr, arith}
+use Rattle.std.proofs.Common.{◌≡◌, ℕ, Bool, true, false, not, ◌&&◌, ◌||◌, ◌==◌, ◌∷◌, ◌++◌, Option, Some, None, sym, refl, ap, subst, inl, inr, arith}
 use mathlib.Core.Bool.{false≢true}
+use Rattle.std.specs.Prelude.{is_none}
 use Rattle.std.proofs.lemmas.Bool.Decides.{eqb_tells}
 use Rattle.claims.specs.Claims.{C, and1, before}
 use Rattle.formulas.specs.declared.name.Name.{Name}
@@ -13,8 +14,10 @@ use Rattle.formulas.specs.Names.{names_place, names_group, names, without, Among
 use Rattle.formulas.proofs.NamesLaws.{among_left, among_right, among_without}
 use Rattle.formulas.proofs.SetsLaws.{or_true, and_true}
 use Rattle.translation.specs.Numbers.{Numbering, numbered, numbers, fresh}
-use Rattle.translation.specs.Translation.{some_place, is_sure, is_sure_in, is_named, sure_same, sure, about, is_place, is_in, is_same, claim_as}
+use Rattle.translation.specs.OnePlace.{is_named, point_of}
+use Rattle.translation.specs.Translation.{some_place, is_sure, is_sure_in, sure_same, sure, about, is_place, is_in, is_same, or_point, claim_as}
 use Rattle.translation.proofs.NumbersLaws.{among_number, fresh_free}
+use Rattle.translation.proofs.OnePlaceLaws.{equal, named_is}
 use Rattle.translation.proofs.Connectives.{Sure, sure_left, sure_right, some_sure, some_place_sure}
 use Rattle.translation.proofs.Terms.{fresh_head, fresh_tail, place_sure, group_sure, before_first, before_second}
 
@@ -22,15 +25,8 @@ pub name_apart : {x y : ℕ} → OfPlace x ≡ OfGroup y → ⊥
 name_apart e = let z : ◌≡◌ {A = ℕ} 0 1 = cc in omega arith
 
 -- tests
-equal : (x y : ℕ) → (x == y) ≡ true → x ≡ y
-equal x y q = elim (eqb_tells x y) [ inl r ↦ r.1 | inr r ↦ absurd (false≢true (sym r.0 ∙ q)) ]
-
 unequal : (x y : ℕ) → not (x == y) ≡ true → ((x == y) ≡ false) × (OfPlace x ≡ OfPlace y → ⊥)
 unequal x y q = elim (eqb_tells x y) [ inl r ↦ let z : not true ≡ true = rw r.0 at q in absurd (false≢true z) | inr r ↦ (r.0, λ e. r.1 (cc)) ]
-
-named_is : (x : ℕ) (p : Place) → is_named x p ≡ true → p ≡ place x
-named_is x (place y) q = ap place (equal y x q)
-named_is x p q = absurd (false≢true q)
 
 named_among : (x : ℕ) (p : Place) → is_named x p ≡ true → Among (OfPlace x) (names_place p)
 named_among x (place y) q = inl (ap OfPlace (sym (equal y x q)))
@@ -69,7 +65,10 @@ sure_among (Implies' _ a _ c) false x q = elim ((or_true (sure a true x) (sure c
   | inl r ↦ among_left (OfPlace x) (names a) (names c) (sure_among a true x r)
   | inr r ↦ among_right (OfPlace x) (names a) (names c) (sure_among c false x r)
 ]
-sure_among (Some1' y _ a) true x q = let r = (and_true (not (x == y)) (sure a true x)).1 q in among_without (OfPlace y) (OfPlace x) (names a) (unequal x y r.0).1 (sure_among a true x r.1)
+sure_among (Some1' y _ a) true x q =
+    let p = (and_true (is_none (point_of y a)) (not (x == y) && sure a true x)).1 q in
+    let r = (and_true (not (x == y)) (sure a true x)).1 p.1 in
+    among_without (OfPlace y) (OfPlace x) (names a) (unequal x y r.0).1 (sure_among a true x r.1)
 sure_among (Some1' y _ a) false x q = absurd (false≢true q)
 sure_among (All1' y _ a) true x q = absurd (false≢true q)
 sure_among (All1' y _ a) false x q = let r = (and_true (not (x == y)) (sure a false x)).1 q in among_without (OfPlace y) (OfPlace x) (names a) (unequal x y r.0).1 (sure_among a false x r.1)
@@ -122,6 +121,10 @@ beside x y m ρ c q u = rw (unequal x y q).0 at u
 here : (x m : ℕ) (ρ : Numbering) → numbered ρ (OfPlace x) m (OfPlace x) ≡ m
 here x m ρ = elim (eqb_tells x x) [ inl q ↦ rw q.0 | inr q ↦ absurd (q.1 refl) ]
 
+no_point : (p : Option ℕ) (ρ : Numbering) (c : C) (n : ℕ) → is_none p ≡ true → Sure n c → Sure n (or_point p ρ c)
+no_point None ρ c n q u = u
+no_point (Some y) ρ c n q u = absurd (false≢true q)
+
 pub sure_says : (a : Formula) (b : Bool) (x : ℕ) (ρ : Numbering) → sure a b x ≡ true → Sure (ρ (OfPlace x)) (claim_as a b ρ)
 sure_says True b x ρ q = absurd (false≢true q)
 sure_says (Same s t) true x ρ q = same_sure x s t ρ (fresh (numbers ρ (names_place s ++ names_place t))) q
@@ -157,9 +160,11 @@ sure_says (Implies' _ a _ c) false x ρ q = elim ((or_true (sure a true x) (sure
 ]
 sure_says (Some1' y _ a) true x ρ q =
     let m = fresh (numbers ρ (without (OfPlace y) (names a))) in
-    let r = (and_true (not (x == y)) (sure a true x)).1 q in
-    some_place_sure (sure a true y) m (ρ (OfPlace x)) (claim_as a true (numbered ρ (OfPlace y) m))
-    (bound_apart (OfPlace y) a ρ x (unequal x y r.0).1 (sure_among a true x r.1)) (beside x y m ρ (claim_as a true (numbered ρ (OfPlace y) m)) r.0 (sure_says a true x (numbered ρ (OfPlace y) m) r.1))
+    let c = some_place (sure a true y) m (claim_as a true (numbered ρ (OfPlace y) m)) in
+    let p = (and_true (is_none (point_of y a)) (not (x == y) && sure a true x)).1 q in
+    let r = (and_true (not (x == y)) (sure a true x)).1 p.1 in
+    no_point (point_of y a) ρ c (ρ (OfPlace x)) p.0 (some_place_sure (sure a true y) m (ρ (OfPlace x)) (claim_as a true (numbered ρ (OfPlace y) m))
+    (bound_apart (OfPlace y) a ρ x (unequal x y r.0).1 (sure_among a true x r.1)) (beside x y m ρ (claim_as a true (numbered ρ (OfPlace y) m)) r.0 (sure_says a true x (numbered ρ (OfPlace y) m) r.1)))
 sure_says (Some1' y _ a) false x ρ q = absurd (false≢true q)
 sure_says (All1' y _ a) true x ρ q = absurd (false≢true q)
 sure_says (All1' y _ a) false x ρ q =

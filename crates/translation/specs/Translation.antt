@@ -1,6 +1,6 @@
 -- The claim that is made of a formula. A place is the set of it alone. A name that a quantifier binds gets the lowest number that no set has which its part speaks of.
 -- Two things are not said twice: that a set is a place where what is claimed of it says so already (is_sure, is_sure_in, sure), and the opposite of an opposite (claim_as).
-use Rattle.std.specs.Prelude.{ℕ, Bool, true, false, not, ◌&&◌, ◌||◌, [], ◌∷◌, ◌++◌, ◌==◌}
+use Rattle.std.specs.Prelude.{ℕ, Bool, true, false, not, ◌&&◌, ◌||◌, Option, Some, None, is_none, [], ◌∷◌, ◌++◌, ◌==◌}
 use Rattle.claims.specs.Claims.{C, within, single, next, before, not1, and1, some}
 use Rattle.formulas.specs.declared.name.Name.TheVariants.{OfPlace, OfGroup}
 use Rattle.formulas.specs.declared.formula.Place.{Place}
@@ -11,6 +11,7 @@ use Rattle.formulas.specs.declared.formula.Group.TheVariants.{Named as group, Em
 use Rattle.formulas.specs.declared.formula.Formula.TheVariants.{True, Same, Less, In, Sub, Not', And', Or', Implies', Some1', All1', Some2', All2'}
 use Rattle.formulas.specs.Names.{names_place, names_group, names, without}
 use Rattle.translation.specs.Numbers.{Numbering, numbered, numbers, fresh}
+use Rattle.translation.specs.OnePlace.{is_named, point_of}
 
 -- a claim, or its opposite
 abbrev pub signed : Bool → C → C
@@ -121,11 +122,6 @@ is_within ρ (Only' _ (place x)) t m = set_within ρ (ρ (OfPlace x)) t m
 is_within ρ (Union' _ r _ s) t m = and1 (is_within ρ r t m) (is_within ρ s t m)
 is_within ρ s t m = each_in ρ (is_sure_in s) (is_in s ρ m) t m
 
--- whether the place is that name's
-abbrev pub is_named : ℕ → Place → Bool
-is_named x (place y) = y == x
-is_named x t = false
-
 -- whether the claim that both are the same place, above, is sure of the set of the place x: the place that has a name, the first if both have, is said to be the other
 abbrev pub sure_same : ℕ → Place → Place → Bool
 sure_same x (place y) t = y == x && is_sure t
@@ -142,10 +138,15 @@ sure (Not' _ a) b x = sure a (not b) x
 sure (And' _ a _ c) b x = b && (sure a true x || sure c true x)
 sure (Or' _ a _ c) b x = not b && (sure a false x || sure c false x)
 sure (Implies' _ a _ c) b x = not b && (sure a true x || sure c false x)
-sure (Some1' y _ a) b x = b && (not (x == y) && sure a true x)
+sure (Some1' y _ a) b x = b && (is_none (point_of y a) && (not (x == y) && sure a true x))
 sure (All1' y _ a) b x = not b && (not (x == y) && sure a false x)
 sure (Some2' y _ a) b x = b && sure a true x
 sure (All2' y _ a) b x = not b && sure a false x
+
+-- c, but where it says that there is a place which is the one place of a set with a name, that the set has one place
+abbrev pub or_point : Option ℕ → Numbering → C → C
+or_point (Some y) ρ c = single (ρ (OfGroup y))
+or_point None ρ c = c
 
 -- the claim of the formula, if b is true, or of its opposite
 abbrev pub claim_as : Formula → Bool → Numbering → C
@@ -166,7 +167,7 @@ claim_as (Or' _ a _ c) b ρ = signed (not b) (and1 (claim_as a false ρ) (claim_
 claim_as (Implies' _ a _ c) b ρ = signed (not b) (and1 (claim_as a true ρ) (claim_as c false ρ))
 claim_as (Some1' x _ a) b ρ =
     let m = fresh (numbers ρ (without (OfPlace x) (names a))) in
-    signed b (some_place (sure a true x) m (claim_as a true (numbered ρ (OfPlace x) m)))
+    signed b (or_point (point_of x a) ρ (some_place (sure a true x) m (claim_as a true (numbered ρ (OfPlace x) m))))
 claim_as (All1' x _ a) b ρ =
     let m = fresh (numbers ρ (without (OfPlace x) (names a))) in
     signed (not b) (some_place (sure a false x) m (claim_as a false (numbered ρ (OfPlace x) m)))
