@@ -1,5 +1,5 @@
 -- The claim of a formula is as long as its shape says.
-use Rattle.std.proofs.Common.{◌≡◌, ℕ, ◌+◌, Bool, true, false, cond, not, ◌||◌, List, ◌∷◌, ◌++◌, [], length, refl, ◌∙◌, arith, length-append}
+use Rattle.std.proofs.Common.{◌≡◌, ℕ, ◌+◌, Bool, true, false, cond, not, ◌||◌, Option, Some, None, List, ◌∷◌, ◌++◌, [], length, refl, ◌∙◌, arith, length-append}
 use Rattle.claims.specs.Claims.{C, within, before, not1, and1, single, some}
 use Rattle.claims.specs.Rows.{row}
 use Rattle.formulas.specs.declared.name.Name.{Name}
@@ -12,9 +12,10 @@ use Rattle.formulas.specs.declared.formula.Group.TheVariants.{Named as group, Em
 use Rattle.formulas.specs.declared.formula.Formula.TheVariants.{True, Same, Less, In, Sub, Not', And', Or', Implies', Some1', All1', Some2', All2'}
 use Rattle.formulas.specs.Names.{names_place, names_group, names, without}
 use Rattle.translation.specs.Numbers.{Numbering, numbered, numbers, fresh}
-use Rattle.translation.specs.Translation.{signed, or1, some_place, lies, is_first, is_before, is_end, is_sure, is_sure_in, sure, about, behind, is_place, is_in, is_same, each_in, set_within, is_within, claim_as}
+use Rattle.translation.specs.Translation.{signed, or1, some_place, lies, is_first, is_before, is_end, is_sure, is_sure_in, sure, about, behind, is_place, is_in, is_same, each_in, set_within, is_within, or_point, claim_as}
+use Rattle.translation.specs.OnePlace.{point_of}
 use Rattle.translation.specs.Settles.{singles}
-use Rattle.formula_claims.specs.Lengths.{sign_length, some_length, about_length, behind_length, place_length, group_length, same_length, each_length, set_within_length, within_length, formula_length, places_length}
+use Rattle.formula_claims.specs.Lengths.{sign_length, some_length, about_length, behind_length, place_length, group_length, same_length, each_length, set_within_length, within_length, or_two, formula_length, places_length}
 
 abbrev bytes : C → ℕ
 bytes c = length (row c)
@@ -114,6 +115,10 @@ in_bytes t s ρ =
 both_bytes : (b : Bool) (c d : C) (i j : ℕ) → bytes c ≡ i → bytes d ≡ j → bytes (signed b (and1 c d)) ≡ i + j + 1 + sign_length b
 both_bytes b c d i j p q = signed_bytes b (and1 c d) (i + j + 1) (and_bytes c d ∙ omega arith)
 
+point_bytes : (p : Option ℕ) (ρ : Numbering) (c : C) (i : ℕ) → bytes c ≡ i → bytes (or_point p ρ c) ≡ or_two p i
+point_bytes None ρ c i q = q
+point_bytes (Some y) ρ c i q = refl
+
 pub formula_bytes : (a : Formula) (b : Bool) (ρ : Numbering) → bytes (claim_as a b ρ) ≡ formula_length a b
 formula_bytes True b ρ = signed_bytes b (within 0 0) 3 refl
 formula_bytes (Same s t) b ρ = let m = fresh (numbers ρ (names_place s ++ names_place t)) in signed_bytes b (is_same ρ s t m) (same_length s t) (same_bytes ρ s t m)
@@ -127,7 +132,9 @@ formula_bytes (Implies' _ a _ c) b ρ = both_bytes (not b) (claim_as a true ρ) 
 formula_bytes (Some1' x _ a) b ρ =
     let m = fresh (numbers ρ (without (OfPlace x) (names a))) in
     let c = claim_as a true (numbered ρ (OfPlace x) m) in
-    signed_bytes b (some_place (sure a true x) m c) (formula_length a true + some_length (sure a true x)) (some_bytes (sure a true x) m c (formula_length a true) (formula_bytes a true (numbered ρ (OfPlace x) m)))
+    let i = formula_length a true + some_length (sure a true x) in
+    signed_bytes b (or_point (point_of x a) ρ (some_place (sure a true x) m c)) (or_two (point_of x a) i) (point_bytes (point_of x a) ρ (some_place (sure a true x) m c) i
+    (some_bytes (sure a true x) m c (formula_length a true) (formula_bytes a true (numbered ρ (OfPlace x) m))))
 formula_bytes (All1' x _ a) b ρ =
     let m = fresh (numbers ρ (without (OfPlace x) (names a))) in
     let c = claim_as a false (numbered ρ (OfPlace x) m) in

@@ -3,6 +3,7 @@
 ghost use Rattle.std.specs.Prelude.{◌≡◌, ℕ, ◌+◌, min, true};
 ghost use Rattle.formula_claims.specs.Lengths;
 
+use crate::one_place::point_of;
 use crate::sure::{is_sure, is_sure_in, sure};
 use formulas::formula::{Formula, Group, Place};
 
@@ -29,8 +30,17 @@ pub fn formula_length(formula: &Formula, holds: bool) -> usize
             let fails = sum(formula_length(a, true), formula_length(b, false), 1);
             signed(fails, !holds)
         }
-        Formula::Some1(x, a) => signed(some_length(sure(a, true, *x), formula_length(a, true)), holds),
-        Formula::All1(x, a) => signed(some_length(sure(a, false, *x), formula_length(a, false)), !holds),
+        Formula::Some1(x, a) => {
+            let some = match point_of(*x, a) {
+                Some(_) => 2,
+                None => some_length(sure(a, true, *x), formula_length(a, true)),
+            };
+            signed(some, holds)
+        }
+        Formula::All1(x, a) => signed(
+            some_length(sure(a, false, *x), formula_length(a, false)),
+            !holds,
+        ),
         Formula::Some2(_, a) => signed(formula_length(a, true).saturating_add(2), holds),
         Formula::All2(_, a) => signed(formula_length(a, false).saturating_add(2), !holds),
     }

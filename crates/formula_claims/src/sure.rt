@@ -2,6 +2,7 @@
 ghost use Rattle.std.specs.Prelude.{◌≡◌};
 ghost use Rattle.translation.specs.Translation;
 
+use crate::one_place::{is_named, point_of};
 use formulas::formula::{Formula, Group, Place};
 
 // The claim that a set is the place.
@@ -24,16 +25,6 @@ pub fn is_sure_in(group: &Group) -> bool
         Group::Union(s, t) => is_sure_in(s) && is_sure_in(t),
         Group::Inter(s, t) => is_sure_in(s) || is_sure_in(t),
         Group::Minus(s, _) => is_sure_in(s),
-    }
-}
-
-// Whether the place is that name's.
-fn is_named(x: u32, place: &Place) -> bool
-    ensures { result ≡ Translation.is_named x place.now }
-{
-    match place {
-        Place::Named(y) => *y == x,
-        _ => false,
     }
 }
 
@@ -60,7 +51,9 @@ pub fn sure(formula: &Formula, holds: bool, x: u32) -> bool
         Formula::And(a, b) => holds && (sure(a, true, x) || sure(b, true, x)),
         Formula::Or(a, b) => !holds && (sure(a, false, x) || sure(b, false, x)),
         Formula::Implies(a, b) => !holds && (sure(a, true, x) || sure(b, false, x)),
-        Formula::Some1(y, a) => holds && (x != *y && sure(a, true, x)),
+        Formula::Some1(y, a) => {
+            holds && (point_of(*y, a).is_none() && (x != *y && sure(a, true, x)))
+        }
         Formula::All1(y, a) => !holds && (x != *y && sure(a, false, x)),
         Formula::Some2(_, a) => holds && sure(a, true, x),
         Formula::All2(_, a) => !holds && sure(a, false, x),

@@ -8,12 +8,13 @@ ghost use Rattle.translation.specs.Translation;
 ghost use Rattle.claims.specs.Trees.{said};
 ghost use Rattle.formula_claims.specs.Scope.{number_of};
 
+use crate::one_place::point_of;
 use crate::scope::{Scope, fresh};
 use crate::sure::{is_sure, is_sure_in, sure};
 use crate::terms::{about, is_in, is_place, set_of};
 use crate::tree::{lies, signed, some_place};
 use claims::atom::Atom;
-use claims::tree::{Claim, and, not, some_set};
+use claims::tree::{Claim, and, not, single, some_set};
 use formulas::formula::{Formula, Group, Place};
 use formulas::free::{push_group, push_others, push_place};
 use formulas::name::Name;
@@ -59,7 +60,10 @@ fn translate_as(
             signed(alloc, !holds, and(alloc, c, d)?)
         }
         Formula::Some1(x, a) => {
-            let some = some_named(alloc, *x, a, true, scope)?;
+            let some = match point_of(*x, a) {
+                Some(y) => single(scope.number(Name::OfGroup(y))),
+                None => some_named(alloc, *x, a, true, scope)?,
+            };
             signed(alloc, holds, some)
         }
         Formula::All1(x, a) => {
