@@ -1,10 +1,10 @@
 -- The claim that is made of a formula holds exactly if the formula does.
 use Rattle.std.proofs.Common.{◌≡◌, ℕ, ◌<◌, Bool, true, false, not, Option, Some, None, ◌↔◌, List, ◌∷◌, ◌++◌, sym, refl, ◌∙◌, subst, inl, inr}
-use Rattle.std.proofs.lemmas.Bool.Decides.{eqb_tells}
 use Rattle.words.specs.Words.{Sets, Word, sets}
 use Rattle.claims.specs.Claims.{C, within, and1, some, before, Holds, Of, Only, has, put}
 use Rattle.claims.specs.Places.{one}
 use Rattle.claims.proofs.PlacesLaws.{put_same, only_one}
+use Rattle.claims.specs.declared.atom.Atom.{Atom}
 use Rattle.formulas.specs.declared.name.Name.TheVariants.{OfPlace, OfGroup}
 use Rattle.formulas.specs.declared.formula.Place.{Place}
 use Rattle.formulas.specs.declared.formula.Group.{Group}
@@ -13,17 +13,17 @@ use Rattle.formulas.specs.declared.formula.Place.TheVariants.{Named as place}
 use Rattle.formulas.specs.declared.formula.Formula.TheVariants.{True, Same, Less, In, Sub, Not', And', Or', Implies', Some1', All1', Some2', All2'}
 use Rattle.formulas.specs.Meaning.{Env, with_place, with_group, value, members, Meaning}
 use Rattle.formulas.specs.Names.{names_place, names_group, names, without, Among}
-use Rattle.formulas.proofs.NamesLaws.{among_left, among_without}
+use Rattle.formulas.proofs.NamesLaws.{among_left}
 use Rattle.translation.specs.Numbers.{Numbering, numbered, numbers, fresh}
-use Rattle.translation.specs.Translation.{some_place, is_sure, is_sure_in, sure, about, is_place, is_in, or_point, claim_as, claim}
-use Rattle.translation.specs.OnePlace.{point_of}
+use Rattle.translation.specs.Translation.{some_place, is_sure, is_sure_in, sure, about, is_place, is_in, atom_or, claim_as, claim}
+use Rattle.translation.specs.OnePlace.{atom_of}
 use Rattle.translation.proofs.NumbersLaws.{among_part, fresh_free}
 use Rattle.translation.proofs.Families.{Family, Agree, family_put, put_agree, only_agree}
 use Rattle.translation.proofs.Standing.{Stand, stand_left, stand_right, stand_agree, stand_bind, place_other, group_other, place_here, group_here}
 use Rattle.translation.proofs.Connectives.{before_says, iff_trans, iff_and, Sure, some_place_says, Said, dec_of, signed_says, not_said, either_says, implies_says, all_says}
 use Rattle.translation.proofs.Terms.{fresh_head, fresh_tail, about_says, place_sure, group_sure, before_first, before_second, place_says, group_says}
-use Rattle.translation.proofs.OnePlaceLaws.{point_says, point_among}
-use Rattle.translation.proofs.Sureness.{name_apart, about_sure, bound_sure}
+use Rattle.translation.proofs.OnePlaceLaws.{atom_of_says}
+use Rattle.translation.proofs.Sureness.{about_sure, bound_sure}
 use Rattle.translation.proofs.Within.{within_says}
 
 same_other : (p q : Place) (ρ : Numbering) (e : Env) (m : ℕ) (v : Sets) → Family v → Stand v ρ e (names_place p ++ names_place q) → (Among m (numbers ρ (names_place p ++ names_place q)) → ⊥) →
@@ -68,25 +68,11 @@ in_says p g ρ e v f s =
     (λ t i ft a o. place_says p ρ e m i t ft (stand_left t ρ e k l (on t a)) o)
     (λ t b i ft a r o. group_says g ρ e b i t ft (stand_right t ρ e k l (on t a)) o)
 
-place_now : (x i : ℕ) (e : Env) → (with_place e x i).places x ≡ i
-place_now x i e = elim (eqb_tells x x) [ inl q ↦ rw q.0 | inr q ↦ absurd (q.1 refl) ]
-
--- there is a place that is the one place of a set exactly if the set has one place
-point_or : (p : Option ℕ) (a : Formula) (x : ℕ) (ρ : Numbering) (e : Env) (c : C) (v : Sets) → point_of x a ≡ p → Stand v ρ e (without (OfPlace x) (names a)) →
-    Holds c v ↔ ((i : ℕ) × Meaning a (with_place e x i)) → Holds (or_point p ρ c) v ↔ ((i : ℕ) × Meaning a (with_place e x i))
-point_or None a x ρ e c v q s h = h
-point_or (Some y) a x ρ e c v q s h =
-    let n = ρ (OfGroup y) in
-    let is : (j : ℕ) → v n j ≡ has (e.groups y) j = s (OfGroup y) (among_without (OfPlace x) (OfGroup y) (names a) (λ z. name_apart (sym z)) (point_among x a y q)) in
-    let at : (i : ℕ) → (with_place e x i).places x ≡ i = λ i. place_now x i e in
-    (
-      λ k. (k.0, (point_says x a y (with_place e x k.0) q).1 (
-        subst (λ j. has (e.groups y) j ≡ true) (sym (at k.0)) (sym (is k.0) ∙ k.1.0),
-        λ j g. k.1.1 j (is j ∙ g) ∙ sym (at k.0),
-      )),
-      λ k. (let r = (point_says x a y (with_place e x k.0) q).0 k.1 in
-        (k.0, (is k.0 ∙ subst (λ j. has (e.groups y) j ≡ true) (at k.0) r.0, λ j g. r.1 j (sym (is j) ∙ g) ∙ at k.0))),
-    )
+-- there is a place of which the formula holds, whether that is an atom or not
+atom_or_says : (p : Option Atom) (a : Formula) (x : ℕ) (ρ : Numbering) (e : Env) (c : C) (v : Sets) → atom_of x a ≡ p → Stand v ρ e (without (OfPlace x) (names a)) →
+    Holds c v ↔ ((i : ℕ) × Meaning a (with_place e x i)) → Holds (atom_or p ρ c) v ↔ ((i : ℕ) × Meaning a (with_place e x i))
+atom_or_says None a x ρ e c v q s h = h
+atom_or_says (Some k) a x ρ e c v q s h = atom_of_says x a k ρ e v q s
 
 -- where the sets stand for the formula's names: the claim is the formula, that of its opposite the opposite
 says_as : (a : Formula) (b : Bool) (ρ : Numbering) (e : Env) (v : Sets) → Family v → Stand v ρ e (names a) → Holds (claim_as a b ρ) v ↔ Said b (Meaning a e)
@@ -110,7 +96,7 @@ says_as (Implies' _ a _ c) b ρ e v f s =
 says_as (Some1' x _ a) b ρ e v f s =
     let m = fresh (numbers ρ (without (OfPlace x) (names a))) in
     let c = claim_as a true (numbered ρ (OfPlace x) m) in
-    signed_says b (or_point (point_of x a) ρ (some_place (sure a true x) m c)) v (point_or (point_of x a) a x ρ e (some_place (sure a true x) m c) v refl s
+    signed_says b (atom_or (atom_of x a) ρ (some_place (sure a true x) m c)) v (atom_or_says (atom_of x a) a x ρ e (some_place (sure a true x) m c) v refl s
     (some_place_says (sure a true x) m c v (λ i. Meaning a (with_place e x i)) (bound_sure a true x m ρ) f (λ t i ft g o.
     says_as a true (numbered ρ (OfPlace x) m) (with_place e x i) t ft (stand_bind (OfPlace x) v t ρ e (with_place e x i) (names a) g (place_other x i t e) (place_here x i m t e o) s))))
 says_as (All1' x _ a) b ρ e v f s =
