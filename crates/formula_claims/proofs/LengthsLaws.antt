@@ -2,6 +2,8 @@
 use Rattle.std.proofs.Common.{◌≡◌, ℕ, ◌+◌, Bool, true, false, cond, not, ◌||◌, Option, Some, None, List, ◌∷◌, ◌++◌, [], length, refl, ◌∙◌, arith, length-append}
 use Rattle.claims.specs.Claims.{C, within, before, not1, and1, single, some}
 use Rattle.claims.specs.Rows.{row}
+use Rattle.claims.specs.declared.atom.Atom.{Atom}
+use Rattle.claims.specs.declared.atom.Atom.TheVariants.{Within, Single, Next, Before}
 use Rattle.formulas.specs.declared.name.Name.{Name}
 use Rattle.formulas.specs.declared.name.Name.TheVariants.{OfPlace, OfGroup}
 use Rattle.formulas.specs.declared.formula.Place.{Place}
@@ -12,10 +14,10 @@ use Rattle.formulas.specs.declared.formula.Group.TheVariants.{Named as group, Em
 use Rattle.formulas.specs.declared.formula.Formula.TheVariants.{True, Same, Less, In, Sub, Not', And', Or', Implies', Some1', All1', Some2', All2'}
 use Rattle.formulas.specs.Names.{names_place, names_group, names, without}
 use Rattle.translation.specs.Numbers.{Numbering, numbered, numbers, fresh}
-use Rattle.translation.specs.Translation.{signed, or1, some_place, lies, is_first, is_before, is_end, is_sure, is_sure_in, sure, about, behind, is_place, is_in, is_same, each_in, set_within, is_within, or_point, claim_as}
-use Rattle.translation.specs.OnePlace.{point_of}
+use Rattle.translation.specs.Translation.{signed, or1, some_place, lies, is_first, is_before, is_end, is_sure, is_sure_in, sure, about, behind, is_place, is_in, is_same, each_in, set_within, is_within, atom_or, claim_as}
+use Rattle.translation.specs.OnePlace.{atom_of}
 use Rattle.translation.specs.Settles.{singles}
-use Rattle.formula_claims.specs.Lengths.{sign_length, some_length, about_length, behind_length, place_length, group_length, same_length, each_length, set_within_length, within_length, or_two, formula_length, places_length}
+use Rattle.formula_claims.specs.Lengths.{sign_length, some_length, about_length, behind_length, place_length, group_length, same_length, each_length, set_within_length, within_length, or_length, formula_length, places_length}
 
 abbrev bytes : C → ℕ
 bytes c = length (row c)
@@ -115,9 +117,12 @@ in_bytes t s ρ =
 both_bytes : (b : Bool) (c d : C) (i j : ℕ) → bytes c ≡ i → bytes d ≡ j → bytes (signed b (and1 c d)) ≡ i + j + 1 + sign_length b
 both_bytes b c d i j p q = signed_bytes b (and1 c d) (i + j + 1) (and_bytes c d ∙ omega arith)
 
-point_bytes : (p : Option ℕ) (ρ : Numbering) (c : C) (i : ℕ) → bytes c ≡ i → bytes (or_point p ρ c) ≡ or_two p i
-point_bytes None ρ c i q = q
-point_bytes (Some y) ρ c i q = refl
+atom_bytes : (p : Option Atom) (ρ : Numbering) (c : C) (i : ℕ) → bytes c ≡ i → bytes (atom_or p ρ c) ≡ or_length p i
+atom_bytes None ρ c i q = q
+atom_bytes (Some (Within y z)) ρ c i q = refl
+atom_bytes (Some (Single y)) ρ c i q = refl
+atom_bytes (Some (Next y z)) ρ c i q = refl
+atom_bytes (Some (Before y z)) ρ c i q = refl
 
 pub formula_bytes : (a : Formula) (b : Bool) (ρ : Numbering) → bytes (claim_as a b ρ) ≡ formula_length a b
 formula_bytes True b ρ = signed_bytes b (within 0 0) 3 refl
@@ -133,7 +138,7 @@ formula_bytes (Some1' x _ a) b ρ =
     let m = fresh (numbers ρ (without (OfPlace x) (names a))) in
     let c = claim_as a true (numbered ρ (OfPlace x) m) in
     let i = formula_length a true + some_length (sure a true x) in
-    signed_bytes b (or_point (point_of x a) ρ (some_place (sure a true x) m c)) (or_two (point_of x a) i) (point_bytes (point_of x a) ρ (some_place (sure a true x) m c) i
+    signed_bytes b (atom_or (atom_of x a) ρ (some_place (sure a true x) m c)) (or_length (atom_of x a) i) (atom_bytes (atom_of x a) ρ (some_place (sure a true x) m c) i
     (some_bytes (sure a true x) m c (formula_length a true) (formula_bytes a true (numbered ρ (OfPlace x) m))))
 formula_bytes (All1' x _ a) b ρ =
     let m = fresh (numbers ρ (without (OfPlace x) (names a))) in

@@ -3,8 +3,9 @@
 ghost use Rattle.std.specs.Prelude.{◌≡◌, ℕ, ◌+◌, min, true};
 ghost use Rattle.formula_claims.specs.Lengths;
 
-use crate::one_place::point_of;
+use crate::one_place::atom_of;
 use crate::sure::{is_sure, is_sure_in, sure};
+use claims::atom::Atom;
 use formulas::formula::{Formula, Group, Place};
 
 /// The bytes of the formula's claim, or where it is not to hold of its opposite's.
@@ -31,8 +32,8 @@ pub fn formula_length(formula: &Formula, holds: bool) -> usize
             signed(fails, !holds)
         }
         Formula::Some1(x, a) => {
-            let some = match point_of(*x, a) {
-                Some(_) => 2,
+            let some = match atom_of(*x, a) {
+                Some(atom) => atom_length(atom),
                 None => some_length(sure(a, true, *x), formula_length(a, true)),
             };
             signed(some, holds)
@@ -51,6 +52,16 @@ fn signed(n: usize, holds: bool) -> usize
     ensures { (m : ℕ) → n ≡ min m usize.MAX → result ≡ min (m + Lengths.sign_length holds) usize.MAX }
 {
     if holds { n } else { n.saturating_add(1) }
+}
+
+// A sign and its sets.
+fn atom_length(atom: Atom) -> usize
+    ensures { result ≡ Lengths.atom_length atom }
+{
+    match atom {
+        Atom::Single(_) => 2,
+        _ => 3,
+    }
 }
 
 // There is a place of which a claim of n bytes holds.

@@ -1,7 +1,11 @@
-// Formulas that say that a place is the one place of a set: X = {x}, as the two inclusions, or x in X and X sub {x}.
-ghost use Rattle.std.specs.Prelude.{◌≡◌};
+// Formulas that say in places what a claim without parts says of sets: that a set has one place, X = {x}; that two sets have one place each and one comes
+// just behind the other, X = {x} & Y = {x + 1}; or further on, X = {x} & Y = {y} & x < y. Of X = {x} the two inclusions are said, in either order, or x in X in
+// place of the one. Sets are given by their names.
+ghost use Rattle.std.specs.Prelude.{◌≡◌, ◌^◌, IfSome};
+ghost use Rattle.claims.specs.Atoms.{Named};
 ghost use Rattle.translation.specs.OnePlace;
 
+use claims::atom::Atom;
 use formulas::formula::{Formula, Group, Place};
 
 // Whether the place is that name's.
@@ -14,12 +18,25 @@ pub fn is_named(x: u32, place: &Place) -> bool
     }
 }
 
+// Whether the place is that name's, or the one behind it.
+fn is_at(behind: bool, x: u32, place: &Place) -> bool
+    ensures { result ≡ OnePlace.is_at behind x place.now }
+{
+    if !behind {
+        return is_named(x, place);
+    }
+    match place {
+        Place::Succ(t) => is_named(x, t),
+        _ => false,
+    }
+}
+
 // Whether the set is that place alone.
-fn is_only(x: u32, group: &Group) -> bool
-    ensures { result ≡ OnePlace.is_only x group.now }
+fn is_only(behind: bool, x: u32, group: &Group) -> bool
+    ensures { result ≡ OnePlace.is_only behind x group.now }
 {
     match group {
-        Group::Only(t) => is_named(x, t),
+        Group::Only(t) => is_at(behind, x, t),
         _ => false,
     }
 }
@@ -34,23 +51,23 @@ fn name_of(group: &Group) -> Option<u32>
     }
 }
 
-// The set of which the formula says that it has no place but x.
-fn no_other(x: u32, formula: &Formula) -> Option<u32>
-    ensures { result ≡ OnePlace.no_other x formula.now }
+// The set of which the formula says that it has no place but that one.
+fn no_other(behind: bool, x: u32, formula: &Formula) -> Option<u32>
+    ensures { result ≡ OnePlace.no_other behind x formula.now }
 {
     match formula {
-        Formula::Sub(s, t) if is_only(x, t) => name_of(s),
+        Formula::Sub(s, t) if is_only(behind, x, t) => name_of(s),
         _ => None,
     }
 }
 
-// The set of which it says that it has x.
-fn has_place(x: u32, formula: &Formula) -> Option<u32>
-    ensures { result ≡ OnePlace.has_place x formula.now }
+// The set of which it says that it has it.
+fn has_place(behind: bool, x: u32, formula: &Formula) -> Option<u32>
+    ensures { result ≡ OnePlace.has_place behind x formula.now }
 {
     match formula {
-        Formula::Sub(s, t) if is_only(x, s) => name_of(t),
-        Formula::In(t, s) if is_named(x, t) => name_of(s),
+        Formula::Sub(s, t) if is_only(behind, x, s) => name_of(t),
+        Formula::In(t, s) if is_at(behind, x, t) => name_of(s),
         _ => None,
     }
 }
@@ -65,15 +82,89 @@ fn agreed(p: Option<u32>, q: Option<u32>) -> Option<u32>
     }
 }
 
-/// The set whose one place x is, if the formula says just that.
-pub fn point_of(x: u32, formula: &Formula) -> Option<u32>
-    ensures { result ≡ OnePlace.point_of x formula.now }
+// The set whose one place x is, or the place behind x, if the formula says just that.
+fn point_of(behind: bool, x: u32, formula: &Formula) -> Option<u32>
+    ensures { result ≡ OnePlace.point_of behind x formula.now }
 {
     let Formula::And(a, b) = formula else {
         return None;
     };
-    match agreed(no_other(x, a), has_place(x, b)) {
+    match agreed(no_other(behind, x, a), has_place(behind, x, b)) {
         Some(y) => Some(y),
-        None => agreed(no_other(x, b), has_place(x, a)),
+        None => agreed(no_other(behind, x, b), has_place(behind, x, a)),
+    }
+}
+
+// The two sets whose one places x and the place behind it are.
+fn next_of(x: u32, formula: &Formula) -> Option<Atom>
+    ensures found { result ≡ OnePlace.next_of x formula.now }
+    ensures named { IfSome result (λ a. Named (2 ^ 32) a) }
+{
+    let Formula::And(a, b) = formula else {
+        return None;
+    };
+    match (point_of(false, x, a), point_of(true, x, b)) {
+        (Some(y), Some(z)) => Some(Atom::Next(y as usize, z as usize)),
+        _ => None,
+    }
+}
+
+// Whether the formula says that x comes before y.
+fn is_less(x: u32, y: u32, formula: &Formula) -> bool
+    ensures { result ≡ OnePlace.is_less x y formula.now }
+{
+    match formula {
+        Formula::Less(s, t) => is_named(x, s) && is_named(y, t),
+        _ => false,
+    }
+}
+
+// The two sets whose one places x and y are.
+fn points_of(x: u32, y: u32, formula: &Formula) -> Option<Atom>
+    ensures found { result ≡ OnePlace.points_of x y formula.now }
+    ensures named { IfSome result (λ a. Named (2 ^ 32) a) }
+{
+    let Formula::And(a, b) = formula else {
+        return None;
+    };
+    match (point_of(false, x, a), point_of(false, y, b)) {
+        (Some(k), Some(l)) => Some(Atom::Before(k as usize, l as usize)),
+        _ => None,
+    }
+}
+
+// The two sets whose one places x and y are, where x comes before y.
+fn ordered_of(x: u32, y: u32, formula: &Formula) -> Option<Atom>
+    ensures found { result ≡ OnePlace.ordered_of x y formula.now }
+    ensures named { IfSome result (λ a. Named (2 ^ 32) a) }
+{
+    match formula {
+        Formula::And(a, b) if is_less(x, y, b) => points_of(x, y, a),
+        _ => None,
+    }
+}
+
+// The same of some place y.
+fn before_of(x: u32, formula: &Formula) -> Option<Atom>
+    ensures found { result ≡ OnePlace.before_of x formula.now }
+    ensures named { IfSome result (λ a. Named (2 ^ 32) a) }
+{
+    match formula {
+        Formula::Some1(y, a) if x != *y => ordered_of(x, *y, a),
+        _ => None,
+    }
+}
+
+// What is said of sets, by their names, by that there is a place x of which the formula holds, if it is just that.
+pub fn atom_of(x: u32, formula: &Formula) -> Option<Atom>
+    ensures found { result ≡ OnePlace.atom_of x formula.now }
+    ensures named { IfSome result (λ a. Named (2 ^ 32) a) }
+{
+    if let Some(y) = point_of(false, x, formula) {
+        return Some(Atom::Single(y as usize));
+    }
+    match next_of(x, formula) {
+        Some(atom) => Some(atom),
+        None => before_of(x, formula),
     }
 }

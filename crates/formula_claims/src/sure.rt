@@ -2,7 +2,7 @@
 ghost use Rattle.std.specs.Prelude.{◌≡◌};
 ghost use Rattle.translation.specs.Translation;
 
-use crate::one_place::{is_named, point_of};
+use crate::one_place::{atom_of, is_named};
 use formulas::formula::{Formula, Group, Place};
 
 // The claim that a set is the place.
@@ -52,7 +52,7 @@ pub fn sure(formula: &Formula, holds: bool, x: u32) -> bool
         Formula::Or(a, b) => !holds && (sure(a, false, x) || sure(b, false, x)),
         Formula::Implies(a, b) => !holds && (sure(a, true, x) || sure(b, false, x)),
         Formula::Some1(y, a) => {
-            holds && (point_of(*y, a).is_none() && (x != *y && sure(a, true, x)))
+            holds && (atom_of(*y, a).is_none() && (x != *y && sure(a, true, x)))
         }
         Formula::All1(y, a) => !holds && (x != *y && sure(a, false, x)),
         Formula::Some2(_, a) => holds && sure(a, true, x),

@@ -1,20 +1,22 @@
 // The claim of a formula, as a tree.
-ghost use Rattle.std.specs.Prelude.{◌≡◌, [], ◌∷◌, ◌++◌, IfOk};
+ghost use Rattle.std.specs.Prelude.{◌≡◌, ◌<◌, ◌^◌, [], ◌∷◌, ◌++◌, IfOk};
+ghost use Rattle.claims.specs.Atoms.{atom, Named};
 ghost use Rattle.claims.specs.Claims.{some};
 ghost use Rattle.formulas.specs.declared.name.Name.TheVariants.{OfPlace, OfGroup};
 ghost use Rattle.formulas.specs.Names.{names_place, names_group, names, without};
 ghost use Rattle.translation.specs.Numbers.{numbered, numbers, fresh};
+ghost use Rattle.translation.specs.OnePlace.{claim_of};
 ghost use Rattle.translation.specs.Translation;
 ghost use Rattle.claims.specs.Trees.{said};
 ghost use Rattle.formula_claims.specs.Scope.{number_of};
 
-use crate::one_place::point_of;
+use crate::one_place::atom_of;
 use crate::scope::{Scope, fresh};
 use crate::sure::{is_sure, is_sure_in, sure};
 use crate::terms::{about, is_in, is_place, set_of};
 use crate::tree::{lies, signed, some_place};
 use claims::atom::Atom;
-use claims::tree::{Claim, and, not, single, some_set};
+use claims::tree::{Claim, and, not, some_set};
 use formulas::formula::{Formula, Group, Place};
 use formulas::free::{push_group, push_others, push_place};
 use formulas::name::Name;
@@ -60,8 +62,8 @@ fn translate_as(
             signed(alloc, !holds, and(alloc, c, d)?)
         }
         Formula::Some1(x, a) => {
-            let some = match point_of(*x, a) {
-                Some(y) => single(scope.number(Name::OfGroup(y))),
+            let some = match atom_of(*x, a) {
+                Some(atom) => Claim::Atom(numbered_atom(atom, scope)),
                 None => some_named(alloc, *x, a, true, scope)?,
             };
             signed(alloc, holds, some)
@@ -78,6 +80,27 @@ fn translate_as(
             let some = some_group(alloc, *x, a, false, scope)?;
             signed(alloc, !holds, some)
         }
+    }
+}
+
+// The number of the set that has the name n.
+fn set_number(n: usize, scope: &Scope) -> usize
+    requires { n < 2 ^ 32 }
+    ensures { result ≡ number_of scope.now (OfGroup n) }
+{
+    scope.number(Name::OfGroup(n as u32))
+}
+
+// What an atom says of sets by their names, said of their numbers.
+fn numbered_atom(named: Atom, scope: &Scope) -> Atom
+    requires { Named (2 ^ 32) named }
+    ensures { atom result ≡ claim_of (number_of scope.now) named }
+{
+    match named {
+        Atom::Within(y, z) => Atom::Within(set_number(y, scope), set_number(z, scope)),
+        Atom::Single(y) => Atom::Single(set_number(y, scope)),
+        Atom::Next(y, z) => Atom::Next(set_number(y, scope), set_number(z, scope)),
+        Atom::Before(y, z) => Atom::Before(set_number(y, scope), set_number(z, scope)),
     }
 }
 

@@ -250,11 +250,11 @@ found_ordered x y (And' ρ a σ c) s d q =
     let r = cond_some (is_less x y c) (points_of x y a) s q in
     let t = pair_of x y a s d r.1 in
     let says : (i j : ℕ) (e : Env) → (Meaning a (with_place (with_place e x i) y j) × Meaning c (with_place (with_place e x i) y j)) ↔ (IsPoint e t.k i × IsPoint e t.l j × (i < j)) = λ i j e. (let g = with_place (with_place e x i) y j in
-      let u = less_says x y c g r.0 in
-      let at_x = earlier x y i j e d in let at_y = place_now y j (with_place e x i) in (
-        λ m. (let (f, h) = (t.says i j e).0 m.0 in (f, h, subst (λ n. i < n) at_y (subst (λ n. n < g.places y) at_x (u.0 m.1)))),
-        λ m. (let (f, h, z) = m in ((t.says i j e).1 (f, h), u.1 (subst (λ n. n < g.places y) (sym at_x) (subst (λ n. i < n) (sym at_y) z)))),
-      )) in
+    let u = less_says x y c g r.0 in
+    let at_x = earlier x y i j e d in let at_y = place_now y j (with_place e x i) in (
+      λ m. (let (f, h) = (t.says i j e).0 m.0 in (f, h, subst (λ n. i < n) at_y (subst (λ n. n < g.places y) at_x (u.0 m.1)))),
+      λ m. (let (f, h, z) = m in ((t.says i j e).1 (f, h), u.1 (subst (λ n. n < g.places y) (sym at_x) (subst (λ n. i < n) (sym at_y) z)))),
+    )) in
     (t.k, t.l, t.is, says, among_left (OfGroup t.k) (names a) (names c) t.k_among, among_left (OfGroup t.l) (names a) (names c) t.l_among)
 found_ordered x y a s d q = absurd (cc)
 
