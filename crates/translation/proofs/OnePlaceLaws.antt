@@ -1,5 +1,5 @@
 -- What a formula says that is found to say that a place is the one place of a set.
-use Rattle.std.proofs.Common.{◌≡◌, ℕ, suc, ◌<◌, Bool, true, false, cond, ◌&&◌, ◌==◌, ◌↔◌, List, ◌++◌, ◌⊎◌, Option, Some, None, sym, refl, ap, ◌∙◌, subst, inl, inr, arith}
+use Rattle.std.proofs.Common.{◌≡◌, ℕ, suc, ◌<◌, Bool, true, false, cond, ◌==◌, ◌↔◌, List, ◌⊎◌, Option, Some, None, sym, refl, ap, ◌∙◌, subst, inl, inr, arith}
 use mathlib.Core.Bool.{false≢true}
 use Rattle.std.proofs.lemmas.Bool.Decides.{eqb_tells}
 use Rattle.words.specs.Words.{Sets}
@@ -17,10 +17,10 @@ use Rattle.formulas.specs.declared.formula.Place.TheVariants.{Named as place, Su
 use Rattle.formulas.specs.declared.formula.Group.TheVariants.{Named as group, Only'}
 use Rattle.formulas.specs.declared.formula.Formula.TheVariants.{Less, In, Sub, And', Some1'}
 use Rattle.formulas.specs.Meaning.{Env, with_place, value, members, Meaning}
-use Rattle.formulas.specs.Names.{names_place, names_group, names, without, Among}
+use Rattle.formulas.specs.Names.{names_group, names, without, Among}
 use Rattle.formulas.proofs.NamesLaws.{among_left, among_right, among_without}
 use Rattle.formulas.proofs.SetsLaws.{and_true, one_says}
-use Rattle.translation.specs.OnePlace.{is_named, is_behind, is_at, is_only, name_of, no_other, has_place, agreed, first_of, point_of, single_of, two_of, next_of, is_less, points_of, ordered_of, before_of, atom_of, claim_of}
+use Rattle.translation.specs.OnePlace.{is_named, is_at, is_only, name_of, no_other, has_place, agreed, first_of, point_of, single_of, two_of, next_of, is_less, points_of, ordered_of, before_of, atom_of, claim_of}
 use Rattle.translation.specs.Numbers.{Numbering}
 use Rattle.translation.proofs.Standing.{Stand}
 

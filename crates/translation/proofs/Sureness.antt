@@ -20,7 +20,7 @@ use Rattle.translation.specs.Translation.{some_place, is_sure, is_sure_in, sure_
 use Rattle.translation.proofs.NumbersLaws.{among_number, fresh_free}
 use Rattle.translation.proofs.OnePlaceLaws.{equal, named_is}
 use Rattle.translation.proofs.Connectives.{Sure, sure_left, sure_right, some_sure, some_place_sure}
-use Rattle.translation.proofs.Terms.{fresh_head, fresh_tail, place_sure, group_sure, before_first, before_second}
+use Rattle.translation.proofs.Terms.{fresh_tail, place_sure, group_sure, before_first, before_second}
 
 pub name_apart : {x y : ℕ} → OfPlace x ≡ OfGroup y → ⊥
 name_apart e = let z : ◌≡◌ {A = ℕ} 0 1 = cc in omega arith

@@ -1,5 +1,5 @@
 -- What the claims say that a set is within another.
-use Rattle.std.proofs.Common.{◌≡◌, ℕ, Bool, true, ◌&&◌, ◌||◌, ◌↔◌, List, [], ◌∷◌, ◌++◌, sym, refl, ◌∙◌, inl, inr}
+use Rattle.std.proofs.Common.{◌≡◌, ℕ, Bool, true, ◌&&◌, ◌||◌, ◌↔◌, List, [], ◌++◌, sym, refl, ◌∙◌, inl, inr}
 use mathlib.Core.Bool.{false≢true}
 use Rattle.words.specs.Words.{Sets}
 use Rattle.claims.specs.Claims.{C, within, and1, not1, Holds, Only, has, put}
@@ -7,7 +7,6 @@ use Rattle.claims.specs.Places.{one}
 use Rattle.claims.proofs.PlacesLaws.{put_same}
 use Rattle.formulas.specs.declared.name.Name.{Name}
 use Rattle.formulas.specs.declared.name.Name.TheVariants.{OfPlace, OfGroup}
-use Rattle.formulas.specs.declared.formula.Place.{Place}
 use Rattle.formulas.specs.declared.formula.Place.TheVariants.{Named as place}
 use Rattle.formulas.specs.declared.formula.Group.{Group}
 use Rattle.formulas.specs.declared.formula.Group.TheVariants.{Named as group, Empty, Only', Union', Inter'}

@@ -1,6 +1,6 @@
 -- Formulas that say in places what a claim without parts says of sets: that a set has one place, X = {x}; that two sets have one place each and one comes just behind
 -- the other, X = {x} & Y = {x + 1}; or further on, X = {x} & Y = {y} & x < y. Of X = {x} the two inclusions are said, in either order, or x in X in place of the one.
-use Rattle.std.specs.Prelude.{ℕ, suc, Bool, true, false, cond, ◌&&◌, not, Option, Some, None, ◌==◌}
+use Rattle.std.specs.Prelude.{ℕ, Bool, true, false, cond, ◌&&◌, Option, Some, None, ◌==◌}
 use Rattle.claims.specs.Claims.{C, within, single, next, before}
 use Rattle.claims.specs.declared.atom.Atom.{Atom}
 use Rattle.claims.specs.declared.atom.Atom.TheVariants.{Within, Single, Next, Before}
