@@ -4,7 +4,7 @@ use Rattle.words.specs.Words.{Sets, Word, sets}
 use Rattle.claims.specs.Claims.{C, not1, some, Holds, Of, put}
 use Rattle.claims.specs.Places.{one}
 use Rattle.formulas.specs.Meaning.{Env, with_place, with_group}
-use Rattle.translating.proofs.Families.{Family, family_put}
+use Rattle.translation.proofs.Families.{Family, family_put}
 use Rattle.claim_text.specs.Forced.{forces}
 use Rattle.claim_text.specs.Saying.{Stand, Tells, bound}
 use Rattle.claim_text.proofs.StandingLaws.{one_is, only_is, stand_place, stand_group, forced}

@@ -8,7 +8,7 @@ use Rattle.claims.specs.Places.{one}
 use Rattle.claims.proofs.PlacesLaws.{has_one, one_has, put_same, only_put}
 use Rattle.formulas.specs.Meaning.{Env, with_place, with_group}
 use Rattle.formulas.proofs.SetsLaws.{or_true}
-use Rattle.translating.proofs.Families.{Family}
+use Rattle.translation.proofs.Families.{Family}
 use Rattle.claim_text.specs.Forced.{forces}
 use Rattle.claim_text.specs.Saying.{Stand, bound}
 

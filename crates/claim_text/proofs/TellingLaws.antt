@@ -4,7 +4,7 @@ use Rattle.words.specs.Words.{Word, sets}
 use Rattle.claims.specs.Claims.{C, not1, and1, Of}
 use Rattle.formulas.specs.declared.formula.Formula.{Formula}
 use Rattle.formulas.specs.Meaning.{Env, Meaning}
-use Rattle.translating.proofs.Families.{Family, holds_or_not}
+use Rattle.translation.proofs.Families.{Family, holds_or_not}
 use Rattle.claim_text.specs.Saying.{Means, Says, Tells, Stand}
 
 -- what a formula means, it tells

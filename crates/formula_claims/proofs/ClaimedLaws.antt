@@ -1,5 +1,5 @@
 -- Bytes that are as the code makes them are the formula's claim.
-use Rattle.std.proofs.Common.{◌≡◌, ℕ, ◌+◌, ◌<◌, Bool, ◌↔◌, List, [], ◌∷◌, length, sym, refl, ◌∙◌, subst, inl, inr, arith}
+use Rattle.std.proofs.Common.{◌≡◌, ℕ, ◌+◌, ◌<◌, Bool, true, ◌↔◌, List, [], ◌∷◌, length, sym, refl, ◌∙◌, subst, inl, inr, arith}
 use Rattle.std.proofs.lemmas.Nat.{pow_pos}
 use Rattle.words.specs.Words.{Word, Columns, sets}
 use Rattle.words.proofs.BitsLaws.{put_bit_below}
@@ -13,13 +13,13 @@ use Rattle.formulas.specs.declared.formula.Formula.{Formula}
 use Rattle.formulas.specs.Meaning.{Env, Meaning}
 use Rattle.formulas.specs.Names.{Among}
 use Rattle.formulas.proofs.NamesLaws.{name_tells}
-use Rattle.translating.specs.Numbers.{Numbering}
-use Rattle.translating.specs.Translation.{claim}
-use Rattle.translating.specs.Settles.{Singles, Covers}
-use Rattle.translating.proofs.Families.{with_set, with_set_sets}
-use Rattle.translating.proofs.Standing.{Stands}
-use Rattle.translating.proofs.Formulas.{of_words}
-use Rattle.translating.proofs.SettlesLaws.{singles_says, settles}
+use Rattle.translation.specs.Numbers.{Numbering}
+use Rattle.translation.specs.Translation.{claim}
+use Rattle.translation.specs.Settles.{Singles, Covers}
+use Rattle.translation.proofs.Families.{with_set, with_set_sets}
+use Rattle.translation.proofs.Standing.{Stands}
+use Rattle.translation.proofs.Formulas.{of_words}
+use Rattle.translation.proofs.SettlesLaws.{singles_says, settles}
 use Rattle.formula_claims.specs.Claimed.{Claimed, Gives, whole, sets_needed, bytes_needed}
 use Rattle.formula_claims.specs.Lengths.{formula_length, places_length}
 use Rattle.formula_claims.specs.Listed.{listed}
@@ -79,7 +79,7 @@ chosen : (l : List Name) (a : Formula) (e : Env) → Covers l a → (w : Word) �
 chosen l a e covers =
     let (w, g) = chosen_word e l in
     let ρ = listed l in
-    let s = singles_says ρ l (claim a ρ) (sets w) in
+    let s = singles_says ρ a l (claim a ρ) (sets w) (w, refl) (λ h. h) in
     let single_places : Singles ρ l (sets w) = λ x h. (e.places x, g.places x h) in
     let of = of_words a ρ e w (λ x h. stands w g x (covers x h)) in
     (w, g, (λ h. of.0 (s.0 h).1, λ m. s.1 (single_places, of.1 m)))
@@ -88,8 +88,8 @@ chosen l a e covers =
     stands w g (OfPlace x) h = g.places x h
     stands w g (OfGroup x) h = g.groups x h
 
-pub bytes_are : (l : List Name) (a : Formula) → formula_length a + 1 + places_length l ≡ bytes_needed l a
-bytes_are l a = omega (arith, singles_bytes (listed l) l (claim a (listed l)), formula_bytes a (listed l))
+pub bytes_are : (l : List Name) (a : Formula) → formula_length a true + 1 + places_length a l ≡ bytes_needed l a
+bytes_are l a = omega (arith, singles_bytes (listed l) a l (claim a (listed l)), formula_bytes a true (listed l))
 
 pub claimed : (l : List Name) (a : Formula) (bytes : List ℕ) → Covers l a → Claim bytes (sets_needed l a) (whole l a) → Claimed l a bytes
 claimed l a bytes covers c = record {

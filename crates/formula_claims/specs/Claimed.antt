@@ -9,16 +9,16 @@ use Rattle.formulas.specs.declared.name.Name.TheVariants.{OfPlace, OfGroup}
 use Rattle.formulas.specs.declared.formula.Formula.{Formula}
 use Rattle.formulas.specs.Meaning.{Env, Meaning}
 use Rattle.formulas.specs.Names.{names, Among}
-use Rattle.translating.specs.Translation.{claim}
-use Rattle.translating.specs.Settles.{singles, Singles, env_of, Covers}
+use Rattle.translation.specs.Translation.{claim}
+use Rattle.translation.specs.Settles.{singles, Singles, env_of, Covers}
 use Rattle.formula_claims.specs.declared.claimed.Refusal.{Refusal}
 use Rattle.formula_claims.specs.declared.claimed.Refusal.TheVariants.{Unlisted}
 use Rattle.formula_claims.specs.declared.claimed.Refusal.TheVariants as refusal
 use Rattle.formula_claims.specs.Listed.{listed}
 
--- the claim: that the listed places are places, and what the formula says, each name being the set with its place in the list for a number
+-- the claim: that the listed places are places, where what the formula says does not say so already, and that; each name being the set with its place in the list for a number
 abbrev pub whole : List Name → Formula → C
-whole l a = singles (listed l) l (claim a (listed l))
+whole l a = singles (listed l) a l (claim a (listed l))
 
 -- how many sets it is about: at least those of the list, and one
 abbrev pub sets_needed : List Name → Formula → ℕ

@@ -1,5 +1,5 @@
 -- The numbers of the sets that stand for names, as a scope has them.
-use Rattle.translating.specs.Numbers.{Numbering, numbered}
+use Rattle.translation.specs.Numbers.{Numbering, numbered}
 use Rattle.formula_claims.specs.declared.scope.Scope.{Scope}
 use Rattle.formula_claims.specs.declared.scope.Scope.TheVariants.{Free, Bound'}
 use Rattle.formula_claims.specs.Listed.{listed}

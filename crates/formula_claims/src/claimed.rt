@@ -1,7 +1,7 @@
 // The bytes of a formula's claim, or why there are none.
-ghost use Rattle.std.specs.Prelude.{◌≡◌, ◌+◌, min, MatchResult, MatchOption, IfOk};
+ghost use Rattle.std.specs.Prelude.{◌≡◌, ◌+◌, min, true, MatchResult, MatchOption, IfOk};
 ghost use Rattle.formulas.specs.Names.{Among};
-ghost use Rattle.translating.specs.Settles.{singles};
+ghost use Rattle.translation.specs.Settles.{singles};
 ghost use Rattle.claims.specs.declared.encode.Refusal.TheVariants.{OutOfMemory};
 ghost use Rattle.formula_claims.specs.declared.claimed.Refusal.TheVariants.{Claim};
 ghost use Rattle.claims.specs.Trees.{said};
@@ -12,6 +12,7 @@ ghost use Rattle.formula_claims.specs.Claimed.{Claimed, Refused, whole};
 
 use crate::length::formula_length;
 use crate::scope::{Scope, position};
+use crate::sure::sure;
 use crate::translate::translate;
 use claims::atom::Atom;
 use claims::encode;
@@ -77,31 +78,40 @@ fn unlisted(free: &[Name], names: &[Name]) -> Option<Name>
     None
 }
 
-// How many bytes are needed: one for the number of sets, three for each listed place, and the formula's. This stops at usize::MAX.
+// How many bytes are needed: one for the number of sets, three for each listed place of which the formula's claim is not sure, and the formula's. This stops at usize::MAX.
 fn bytes_needed(formula: &Formula, names: &[Name]) -> usize
-    ensures { result ≡ min (Lengths.formula_length formula.now + 1 + places_length names.now) usize.MAX }
+    ensures { result ≡ min (Lengths.formula_length formula.now true + 1 + places_length formula.now names.now) usize.MAX }
 {
-    let mut needed = formula_length(formula).saturating_add(1);
+    let mut needed = formula_length(formula, true).saturating_add(1);
     for name in names {
-        if let Name::OfPlace(_) = name {
-            needed = needed.saturating_add(3);
+        if let Name::OfPlace(x) = name {
+            if !sure(formula, true, *x) {
+                needed = needed.saturating_add(3);
+            }
         }
     }
     needed
 }
 
-// The claim, and that the listed places are places.
-fn with_places(alloc: Global, claim: Claim, names: &[Name]) -> Result<Claim, AllocError>
-    ensures { IfOk result (λ r. said r ≡ singles (listed names.now) names.now (said claim)) }
+// The claim, and that the listed places are places, where the formula's claim is not sure of them.
+fn with_places(
+    alloc: Global,
+    formula: &Formula,
+    claim: Claim,
+    names: &[Name],
+) -> Result<Claim, AllocError>
+    ensures { IfOk result (λ r. said r ≡ singles (listed names.now) formula.now names.now (said claim)) }
 {
     let mut whole = claim;
     for name in names {
-        if let Name::OfPlace(_) = name {
-            whole = and(
-                alloc,
-                Claim::Atom(Atom::Single(position(names, *name))),
-                whole,
-            )?;
+        if let Name::OfPlace(x) = name {
+            if !sure(formula, true, *x) {
+                whole = and(
+                    alloc,
+                    Claim::Atom(Atom::Single(position(names, *name))),
+                    whole,
+                )?;
+            }
         }
     }
     Ok(whole)
@@ -111,5 +121,5 @@ fn whole_claim(alloc: Global, formula: &Formula, names: &[Name]) -> Result<Claim
     ensures { IfOk result (λ c. said c ≡ whole names.now formula.now) }
 {
     let claim = translate(alloc, formula, &Scope::Free(names))?;
-    with_places(alloc, claim, names)
+    with_places(alloc, formula, claim, names)
 }

@@ -1,28 +1,74 @@
 // How many bytes the claim of a formula takes. A claim can be as long as 3 to the depth of its terms, so this is counted before the claim is made.
 // Numbers stop at usize::MAX.
-ghost use Rattle.std.specs.Prelude.{◌≡◌, ℕ, ◌+◌, min};
+ghost use Rattle.std.specs.Prelude.{◌≡◌, ℕ, ◌+◌, min, true};
 ghost use Rattle.formula_claims.specs.Lengths;
 
+use crate::one_place::atom_of;
+use crate::sure::{is_sure, is_sure_in, sure};
+use claims::atom::Atom;
 use formulas::formula::{Formula, Group, Place};
 
-pub fn formula_length(formula: &Formula) -> usize
-    ensures { result ≡ min (Lengths.formula_length formula.now) usize.MAX }
+/// The bytes of the formula's claim, or where it is not to hold of its opposite's.
+pub fn formula_length(formula: &Formula, holds: bool) -> usize
+    ensures { result ≡ min (Lengths.formula_length formula.now holds) usize.MAX }
 {
     match formula {
-        Formula::True => 3,
-        Formula::Same(s, t) => same_length(s, t),
-        Formula::Less(s, t) => about_length(s, about_length(t, 3)),
-        Formula::In(t, s) => about_length(t, group_length(s)),
-        Formula::Sub(s, t) => within_length(s, t),
-        Formula::Not(a) => formula_length(a).saturating_add(1),
-        Formula::And(a, b) => sum(formula_length(a), formula_length(b), 1),
-        Formula::Or(a, b) => sum(formula_length(a), formula_length(b), 4),
-        Formula::Implies(a, b) => sum(formula_length(a), formula_length(b), 3),
-        Formula::Some1(_, a) => formula_length(a).saturating_add(5),
-        Formula::All1(_, a) => formula_length(a).saturating_add(7),
-        Formula::Some2(_, a) => formula_length(a).saturating_add(2),
-        Formula::All2(_, a) => formula_length(a).saturating_add(4),
+        Formula::True => signed(3, holds),
+        Formula::Same(s, t) => signed(same_length(s, t), holds),
+        Formula::Less(s, t) => signed(less_length(s, t), holds),
+        Formula::In(t, s) => signed(about_length(t, is_sure_in(s), group_length(s)), holds),
+        Formula::Sub(s, t) => signed(within_length(s, t), holds),
+        Formula::Not(a) => formula_length(a, !holds),
+        Formula::And(a, b) => {
+            let both = sum(formula_length(a, true), formula_length(b, true), 1);
+            signed(both, holds)
+        }
+        Formula::Or(a, b) => {
+            let neither = sum(formula_length(a, false), formula_length(b, false), 1);
+            signed(neither, !holds)
+        }
+        Formula::Implies(a, b) => {
+            let fails = sum(formula_length(a, true), formula_length(b, false), 1);
+            signed(fails, !holds)
+        }
+        Formula::Some1(x, a) => {
+            let some = match atom_of(*x, a) {
+                Some(atom) => atom_length(atom),
+                None => some_length(sure(a, true, *x), formula_length(a, true)),
+            };
+            signed(some, holds)
+        }
+        Formula::All1(x, a) => signed(
+            some_length(sure(a, false, *x), formula_length(a, false)),
+            !holds,
+        ),
+        Formula::Some2(_, a) => signed(formula_length(a, true).saturating_add(2), holds),
+        Formula::All2(_, a) => signed(formula_length(a, false).saturating_add(2), !holds),
     }
+}
+
+// The opposite of a claim takes a byte more.
+fn signed(n: usize, holds: bool) -> usize
+    ensures { (m : ℕ) → n ≡ min m usize.MAX → result ≡ min (m + Lengths.sign_length holds) usize.MAX }
+{
+    if holds { n } else { n.saturating_add(1) }
+}
+
+// A sign and its sets.
+fn atom_length(atom: Atom) -> usize
+    ensures { result ≡ Lengths.atom_length atom }
+{
+    match atom {
+        Atom::Single(_) => 2,
+        _ => 3,
+    }
+}
+
+// There is a place of which a claim of n bytes holds.
+fn some_length(sure: bool, n: usize) -> usize
+    ensures { (m : ℕ) → n ≡ min m usize.MAX → result ≡ min (m + Lengths.some_length sure) usize.MAX }
+{
+    n.saturating_add(if sure { 2 } else { 5 })
 }
 
 fn sum(a: usize, b: usize, c: usize) -> usize
@@ -43,10 +89,12 @@ fn place_length(place: &Place) -> usize
         },
         Place::Prev(t) => match &**t {
             Place::Named(_) => 20,
-            Place::Succ(_) => place_length(t).saturating_add(23),
-            t => place_length(t).saturating_add(26),
+            t => some_length(is_sure(t), place_length(t).saturating_add(21)),
         },
-        Place::Least(s) | Place::Most(s) => group_length(s).saturating_mul(3).saturating_add(28),
+        Place::Least(s) | Place::Most(s) => {
+            let thrice = group_length(s).saturating_mul(3).saturating_add(20);
+            some_length(is_sure_in(s), thrice)
+        }
     }
 }
 
@@ -64,14 +112,13 @@ fn group_length(group: &Group) -> usize
     }
 }
 
-// A claim of n bytes about a place: where the place has no name, a set stands for it.
-fn about_length(place: &Place, n: usize) -> usize
-    ensures { (m : ℕ) → n ≡ min m usize.MAX → result ≡ min (Lengths.about_length place.now (Lengths.place_length place.now) m) usize.MAX }
+// A claim of n bytes about a place, sure of it or not: where the place has no name, a set stands for it.
+fn about_length(place: &Place, sure: bool, n: usize) -> usize
+    ensures { (m : ℕ) → n ≡ min m usize.MAX → result ≡ min (Lengths.about_length place.now (Lengths.place_length place.now) sure m) usize.MAX }
 {
     match place {
         Place::Named(_) => n,
-        Place::Succ(_) => sum(place_length(place), n, 3),
-        _ => sum(place_length(place), n, 6),
+        t => some_length(is_sure(t) || sure, sum(place_length(place), n, 1)),
     }
 }
 
@@ -80,8 +127,21 @@ fn same_length(s: &Place, t: &Place) -> usize
 {
     match s {
         Place::Named(_) => place_length(t),
-        _ => about_length(t, place_length(s)),
+        _ => about_length(t, is_sure(s), place_length(s)),
     }
+}
+
+fn less_length(s: &Place, t: &Place) -> usize
+    ensures { result ≡ min (Lengths.about_length s.now (Lengths.place_length s.now) true (Lengths.about_length t.now (Lengths.place_length t.now) true 3)) usize.MAX }
+{
+    about_length(s, true, about_length(t, true, 3))
+}
+
+// Each place of which a claim of i bytes holds is one of t.
+fn each_length(sure: bool, i: usize, t: &Group) -> usize
+    ensures { (m : ℕ) → i ≡ min m usize.MAX → result ≡ min (Lengths.each_length sure m t.now) usize.MAX }
+{
+    some_length(sure, sum(i, group_length(t), 3))
 }
 
 fn within_length(s: &Group, t: &Group) -> usize
@@ -90,8 +150,12 @@ fn within_length(s: &Group, t: &Group) -> usize
     match s {
         Group::Named(_) => set_within_length(t),
         Group::Empty => 3,
+        Group::Only(p) => match &**p {
+            Place::Named(_) => set_within_length(t),
+            p => each_length(is_sure(p), place_length(p), t),
+        },
         Group::Union(r, s) => sum(within_length(r, t), within_length(s, t), 1),
-        _ => sum(group_length(s), group_length(t), 8),
+        _ => each_length(is_sure_in(s), group_length(s), t),
     }
 }
 
@@ -101,7 +165,11 @@ fn set_within_length(t: &Group) -> usize
     match t {
         Group::Named(_) => 3,
         Group::Empty => 7,
+        Group::Only(p) => match &**p {
+            Place::Named(_) => 3,
+            p => some_length(true, sum(place_length(p), 6, 3)),
+        },
         Group::Inter(s, t) => sum(set_within_length(s), set_within_length(t), 1),
-        _ => group_length(t).saturating_add(14),
+        _ => each_length(true, 6, t),
     }
 }

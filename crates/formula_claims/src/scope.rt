@@ -1,7 +1,7 @@
 // Which set stands for which name.
 ghost use Rattle.std.specs.Prelude.{◌≡◌, ◌++◌};
-ghost use Rattle.translating.specs.Numbers;
-ghost use Rattle.translating.specs.Numbers.{numbers, among};
+ghost use Rattle.translation.specs.Numbers;
+ghost use Rattle.translation.specs.Numbers.{numbers, among};
 ghost use Rattle.formula_claims.specs.Listed.{position_of};
 ghost use Rattle.formula_claims.specs.Scope.{number_of};
 

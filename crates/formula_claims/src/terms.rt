@@ -1,14 +1,16 @@
 // What claims say of terms: that a set is the place, or in the set, that a term means.
 ghost use Rattle.std.specs.Prelude.{◌≡◌, [], ◌∷◌, IfOk};
 ghost use Rattle.formulas.specs.Names.{names_place, names_group};
-ghost use Rattle.translating.specs.Numbers.{numbers, fresh};
-ghost use Rattle.translating.specs.Translation;
+ghost use Rattle.translation.specs.Numbers.{numbers, fresh};
+ghost use Rattle.translation.specs.Translation;
+ghost use Rattle.claims.specs.Atoms.{atom};
 ghost use Rattle.claims.specs.Trees.{said};
 ghost use Rattle.formula_claims.specs.Scope.{number_of};
 ghost use Rattle.formula_claims.specs.Points;
 
 use crate::scope::{Scope, fresh};
-use crate::tree::{is_before, is_end, is_first, lies, or, some_place};
+use crate::sure::{is_sure, is_sure_in};
+use crate::tree::{is_before, is_first, lies, or, some_place};
 use claims::atom::Atom;
 use claims::tree::{Claim, and, not, some_set};
 use formulas::formula::{Group, Place};
@@ -33,40 +35,40 @@ pub fn is_place(alloc: Global, place: &Place, scope: &Scope, n: usize) -> Result
             let m = beside_place(alloc, n, t, scope)?;
             let is_t = is_place(alloc, t, scope, m)?;
             let before = is_before(alloc, fresh(&[n], &[], scope), n, set_of(t, scope, m))?;
-            let claim = about(alloc, t, m, is_t, before)?;
+            let claim = about(alloc, t, m, is_t, false, before)?;
             Ok(claim)
         }
         Place::Least(s) => {
             let m = beside_group(alloc, n, s, scope)?;
-            let in_n = is_in(alloc, s, scope, n)?;
-            let in_m = is_in(alloc, s, scope, m)?;
-            let in_m_too = is_in(alloc, s, scope, m)?;
-            is_end(
-                alloc,
-                m,
-                n,
-                in_n,
-                in_m,
-                in_m_too,
-                Claim::Atom(Atom::Before(m, n)),
-            )
+            is_end(alloc, s, scope, m, n, Atom::Before(m, n))
         }
         Place::Most(s) => {
             let m = beside_group(alloc, n, s, scope)?;
-            let in_n = is_in(alloc, s, scope, n)?;
-            let in_m = is_in(alloc, s, scope, m)?;
-            let in_m_too = is_in(alloc, s, scope, m)?;
-            is_end(
-                alloc,
-                m,
-                n,
-                in_n,
-                in_m,
-                in_m_too,
-                Claim::Atom(Atom::Before(n, m)),
-            )
+            is_end(alloc, s, scope, m, n, Atom::Before(n, m))
         }
     }
+}
+
+// Set n, if it is a place, is the end of the set that the term means: none of its places, as set m, is further out than n, as `beyond` says.
+#[cycle(terms)]
+fn is_end(
+    alloc: Global,
+    group: &Group,
+    scope: &Scope,
+    m: usize,
+    n: usize,
+    beyond: Atom,
+) -> Result<Claim, AllocError>
+    ensures { IfOk result (λ c. said c ≡ Translation.is_end m n (Translation.is_in group.now (number_of scope.now) n) (Translation.is_sure_in group.now) (Translation.is_in group.now (number_of scope.now) m) (atom beyond)) }
+{
+    let in_m = is_in(alloc, group, scope, m)?;
+    let further = some_set(alloc, m, and(alloc, Claim::Atom(beyond), in_m)?)?;
+    let in_n = is_in(alloc, group, scope, n)?;
+    let outermost = and(alloc, in_n, not(alloc, further)?)?;
+    let in_m = is_in(alloc, group, scope, m)?;
+    let filled = some_place(alloc, is_sure_in(group), m, in_m)?;
+    let empty = and(alloc, is_first(alloc, m, n)?, not(alloc, filled)?)?;
+    or(alloc, outermost, empty)
 }
 
 // Set n, if it is a place, is in the set that the term means.
@@ -123,25 +125,23 @@ pub fn set_of(place: &Place, scope: &Scope, m: usize) -> usize
     }
 }
 
-// A claim about a place, as `set_of` gives its set: where that is set m, there is a place m that is_place says to be it. Of the place behind one it says also that it is a place.
+// A claim about a place, as `set_of` gives its set: where that is set m, there is a place m that is_place says to be it. That it is a place is not said again
+// where is_place or the claim is sure of it.
 pub fn about(
     alloc: Global,
     place: &Place,
     m: usize,
     is_place: Claim,
+    sure: bool,
     claim: Claim,
 ) -> Result<Claim, AllocError>
-    ensures { IfOk result (λ r. said r ≡ Points.about_set place.now m (said is_place) (said claim)) }
+    ensures { IfOk result (λ r. said r ≡ Points.about_set place.now m (said is_place) sure (said claim)) }
 {
     match place {
         Place::Named(_) => Ok(claim),
-        Place::Succ(_) => {
+        t => {
             let both = and(alloc, is_place, claim)?;
-            some_set(alloc, m, both)
-        }
-        _ => {
-            let both = and(alloc, is_place, claim)?;
-            some_place(alloc, m, both)
+            some_place(alloc, is_sure(t) || sure, m, both)
         }
     }
 }

@@ -1,15 +1,20 @@
 // The claim of a formula, as a tree.
-ghost use Rattle.std.specs.Prelude.{◌≡◌, [], ◌∷◌, ◌++◌, IfOk};
-ghost use Rattle.claims.specs.Claims.{not1, and1};
+ghost use Rattle.std.specs.Prelude.{◌≡◌, ◌<◌, ◌^◌, [], ◌∷◌, ◌++◌, IfOk};
+ghost use Rattle.claims.specs.Atoms.{atom, Named};
+ghost use Rattle.claims.specs.Claims.{some};
+ghost use Rattle.formulas.specs.declared.name.Name.TheVariants.{OfPlace, OfGroup};
 ghost use Rattle.formulas.specs.Names.{names_place, names_group, names, without};
-ghost use Rattle.translating.specs.Numbers.{numbers, fresh};
-ghost use Rattle.translating.specs.Translation;
+ghost use Rattle.translation.specs.Numbers.{numbered, numbers, fresh};
+ghost use Rattle.translation.specs.OnePlace.{claim_of};
+ghost use Rattle.translation.specs.Translation;
 ghost use Rattle.claims.specs.Trees.{said};
 ghost use Rattle.formula_claims.specs.Scope.{number_of};
 
+use crate::one_place::atom_of;
 use crate::scope::{Scope, fresh};
+use crate::sure::{is_sure, is_sure_in, sure};
 use crate::terms::{about, is_in, is_place, set_of};
-use crate::tree::{all_places, all_sets, implies, lies, or, some_place};
+use crate::tree::{lies, signed, some_place};
 use claims::atom::Atom;
 use claims::tree::{Claim, and, not, some_set};
 use formulas::formula::{Formula, Group, Place};
@@ -17,59 +22,120 @@ use formulas::free::{push_group, push_others, push_place};
 use formulas::name::Name;
 use std::alloc::{AllocError, Global};
 
+/// The formula's claim, where names have the sets that the scope says.
 pub fn translate(alloc: Global, formula: &Formula, scope: &Scope) -> Result<Claim, AllocError>
     ensures { IfOk result (λ c. said c ≡ Translation.claim formula.now (number_of scope.now)) }
 {
+    translate_as(alloc, formula, true, scope)
+}
+
+// The formula's claim, or where it is not to hold that of its opposite.
+#[cycle(formulas)]
+fn translate_as(
+    alloc: Global,
+    formula: &Formula,
+    holds: bool,
+    scope: &Scope,
+) -> Result<Claim, AllocError>
+    ensures { IfOk result (λ c. said c ≡ Translation.claim_as formula.now holds (number_of scope.now)) }
+{
     match formula {
-        Formula::True => Ok(Claim::Atom(Atom::Within(0, 0))),
-        Formula::Same(s, t) => same(alloc, s, t, scope),
-        Formula::Less(s, t) => less(alloc, s, t, scope),
-        Formula::In(t, s) => lies_in(alloc, t, s, scope),
-        Formula::Sub(s, t) => lies_within(alloc, s, t, scope),
-        Formula::Not(a) => {
-            let c = translate(alloc, a, scope)?;
-            not(alloc, c)
-        }
+        Formula::True => signed(alloc, holds, Claim::Atom(Atom::Within(0, 0))),
+        Formula::Same(s, t) => signed(alloc, holds, same(alloc, s, t, scope)?),
+        Formula::Less(s, t) => signed(alloc, holds, less(alloc, s, t, scope)?),
+        Formula::In(t, s) => signed(alloc, holds, lies_in(alloc, t, s, scope)?),
+        Formula::Sub(s, t) => signed(alloc, holds, lies_within(alloc, s, t, scope)?),
+        Formula::Not(a) => translate_as(alloc, a, !holds, scope),
         Formula::And(a, b) => {
-            let c = translate(alloc, a, scope)?;
-            let d = translate(alloc, b, scope)?;
-            and(alloc, c, d)
+            let c = translate_as(alloc, a, true, scope)?;
+            let d = translate_as(alloc, b, true, scope)?;
+            signed(alloc, holds, and(alloc, c, d)?)
         }
         Formula::Or(a, b) => {
-            let c = translate(alloc, a, scope)?;
-            let d = translate(alloc, b, scope)?;
-            or(alloc, c, d)
+            let c = translate_as(alloc, a, false, scope)?;
+            let d = translate_as(alloc, b, false, scope)?;
+            signed(alloc, !holds, and(alloc, c, d)?)
         }
         Formula::Implies(a, b) => {
-            let c = translate(alloc, a, scope)?;
-            let d = translate(alloc, b, scope)?;
-            implies(alloc, c, d)
+            let c = translate_as(alloc, a, true, scope)?;
+            let d = translate_as(alloc, b, false, scope)?;
+            signed(alloc, !holds, and(alloc, c, d)?)
         }
         Formula::Some1(x, a) => {
-            let m = beside_others(alloc, Name::OfPlace(*x), a, scope)?;
-            let inner = Scope::Bound(Name::OfPlace(*x), m, &*scope);
-            let c = translate(alloc, a, &inner)?;
-            some_place(alloc, m, c)
+            let some = match atom_of(*x, a) {
+                Some(atom) => Claim::Atom(numbered_atom(atom, scope)),
+                None => some_named(alloc, *x, a, true, scope)?,
+            };
+            signed(alloc, holds, some)
         }
         Formula::All1(x, a) => {
-            let m = beside_others(alloc, Name::OfPlace(*x), a, scope)?;
-            let inner = Scope::Bound(Name::OfPlace(*x), m, &*scope);
-            let c = translate(alloc, a, &inner)?;
-            all_places(alloc, m, c)
+            let some = some_named(alloc, *x, a, false, scope)?;
+            signed(alloc, !holds, some)
         }
         Formula::Some2(x, a) => {
-            let m = beside_others(alloc, Name::OfGroup(*x), a, scope)?;
-            let inner = Scope::Bound(Name::OfGroup(*x), m, &*scope);
-            let c = translate(alloc, a, &inner)?;
-            some_set(alloc, m, c)
+            let some = some_group(alloc, *x, a, true, scope)?;
+            signed(alloc, holds, some)
         }
         Formula::All2(x, a) => {
-            let m = beside_others(alloc, Name::OfGroup(*x), a, scope)?;
-            let inner = Scope::Bound(Name::OfGroup(*x), m, &*scope);
-            let c = translate(alloc, a, &inner)?;
-            all_sets(alloc, m, c)
+            let some = some_group(alloc, *x, a, false, scope)?;
+            signed(alloc, !holds, some)
         }
     }
+}
+
+// The number of the set that has the name n.
+fn set_number(n: usize, scope: &Scope) -> usize
+    requires { n < 2 ^ 32 }
+    ensures { result ≡ number_of scope.now (OfGroup n) }
+{
+    scope.number(Name::OfGroup(n as u32))
+}
+
+// What an atom says of sets by their names, said of their numbers.
+fn numbered_atom(named: Atom, scope: &Scope) -> Atom
+    requires { Named (2 ^ 32) named }
+    ensures { atom result ≡ claim_of (number_of scope.now) named }
+{
+    match named {
+        Atom::Within(y, z) => Atom::Within(set_number(y, scope), set_number(z, scope)),
+        Atom::Single(y) => Atom::Single(set_number(y, scope)),
+        Atom::Next(y, z) => Atom::Next(set_number(y, scope), set_number(z, scope)),
+        Atom::Before(y, z) => Atom::Before(set_number(y, scope), set_number(z, scope)),
+    }
+}
+
+// There is a place x of which the formula holds, or does not hold.
+#[cycle(formulas)]
+fn some_named(
+    alloc: Global,
+    x: u32,
+    formula: &Formula,
+    holds: bool,
+    scope: &Scope,
+) -> Result<Claim, AllocError>
+    ensures { IfOk result (λ c. (let m = fresh (numbers (number_of scope.now) (without (OfPlace x) (names formula.now))) in said c ≡ Translation.some_place (Translation.sure formula.now holds x) m (Translation.claim_as formula.now holds (numbered (number_of scope.now) (OfPlace x) m)))) }
+{
+    let m = beside_others(alloc, Name::OfPlace(x), formula, scope)?;
+    let inner = Scope::Bound(Name::OfPlace(x), m, &*scope);
+    let c = translate_as(alloc, formula, holds, &inner)?;
+    some_place(alloc, sure(formula, holds, x), m, c)
+}
+
+// There is a set x of which the formula holds, or does not hold.
+#[cycle(formulas)]
+fn some_group(
+    alloc: Global,
+    x: u32,
+    formula: &Formula,
+    holds: bool,
+    scope: &Scope,
+) -> Result<Claim, AllocError>
+    ensures { IfOk result (λ c. (let m = fresh (numbers (number_of scope.now) (without (OfGroup x) (names formula.now))) in said c ≡ some m (Translation.claim_as formula.now holds (numbered (number_of scope.now) (OfGroup x) m)))) }
+{
+    let m = beside_others(alloc, Name::OfGroup(x), formula, scope)?;
+    let inner = Scope::Bound(Name::OfGroup(x), m, &*scope);
+    let c = translate_as(alloc, formula, holds, &inner)?;
+    some_set(alloc, m, c)
 }
 
 // The lowest number that no name of the formula has but the one that a quantifier binds.
@@ -98,7 +164,7 @@ fn same(alloc: Global, s: &Place, t: &Place, scope: &Scope) -> Result<Claim, All
     let m = fresh(&[], &names, scope);
     let is_s = is_place(alloc, s, scope, set_of(t, scope, m))?;
     let is_t = is_place(alloc, t, scope, m)?;
-    let claim = about(alloc, t, m, is_t, is_s)?;
+    let claim = about(alloc, t, m, is_t, is_sure(s), is_s)?;
     Ok(claim)
 }
 
@@ -112,9 +178,9 @@ fn less(alloc: Global, s: &Place, t: &Place, scope: &Scope) -> Result<Claim, All
     let n = fresh(&[m], &names, scope);
     let before = Claim::Atom(Atom::Before(set_of(s, scope, m), set_of(t, scope, n)));
     let is_t = is_place(alloc, t, scope, n)?;
-    let before_t = about(alloc, t, n, is_t, before)?;
+    let before_t = about(alloc, t, n, is_t, true, before)?;
     let is_s = is_place(alloc, s, scope, m)?;
-    let claim = about(alloc, s, m, is_s, before_t)?;
+    let claim = about(alloc, s, m, is_s, true, before_t)?;
     Ok(claim)
 }
 
@@ -127,7 +193,7 @@ fn lies_in(alloc: Global, t: &Place, s: &Group, scope: &Scope) -> Result<Claim, 
     let m = fresh(&[], &names, scope);
     let in_s = is_in(alloc, s, scope, set_of(t, scope, m))?;
     let is_t = is_place(alloc, t, scope, m)?;
-    let claim = about(alloc, t, m, is_t, in_s)?;
+    let claim = about(alloc, t, m, is_t, is_sure_in(s), in_s)?;
     Ok(claim)
 }
 
@@ -146,31 +212,37 @@ fn within(alloc: Global, s: &Group, t: &Group, scope: &Scope, m: usize) -> Resul
     ensures { IfOk result (λ c. said c ≡ Translation.is_within (number_of scope.now) s.now t.now m) }
 {
     match s {
-        Group::Named(x) => set_within(alloc, *x, t, scope, m),
+        Group::Named(x) => set_within(alloc, scope.number(Name::OfGroup(*x)), t, scope, m),
         Group::Empty => Ok(Claim::Atom(Atom::Within(0, 0))),
         Group::Union(r, s) => {
             let all_r = within(alloc, r, t, scope, m)?;
             let all_s = within(alloc, s, t, scope, m)?;
             and(alloc, all_r, all_s)
         }
+        Group::Only(p) => match &**p {
+            Place::Named(x) => set_within(alloc, scope.number(Name::OfPlace(*x)), t, scope, m),
+            p => {
+                let is_p = is_place(alloc, p, scope, m)?;
+                none_outside(alloc, is_sure(p), is_p, t, scope, m)
+            }
+        },
         _ => {
             let in_s = is_in(alloc, s, scope, m)?;
-            none_outside(alloc, in_s, t, scope, m)
+            none_outside(alloc, is_sure_in(s), in_s, t, scope, m)
         }
     }
 }
 
-// Every place of the set that the name x has is one of t.
+// Every place of set n is one of t.
 fn set_within(
     alloc: Global,
-    x: u32,
+    n: usize,
     t: &Group,
     scope: &Scope,
     m: usize,
 ) -> Result<Claim, AllocError>
-    ensures { IfOk result (λ c. said c ≡ Translation.set_within (number_of scope.now) x t.now m) }
+    ensures { IfOk result (λ c. said c ≡ Translation.set_within (number_of scope.now) n t.now m) }
 {
-    let n = scope.number(Name::OfGroup(x));
     match t {
         Group::Named(y) => Ok(Claim::Atom(Atom::Within(n, scope.number(Name::OfGroup(*y))))),
         Group::Empty => {
@@ -179,29 +251,31 @@ fn set_within(
             not(alloc, some)
         }
         Group::Inter(s, t) => {
-            let all_s = set_within(alloc, x, s, scope, m)?;
-            let all_t = set_within(alloc, x, t, scope, m)?;
+            let all_s = set_within(alloc, n, s, scope, m)?;
+            let all_t = set_within(alloc, n, t, scope, m)?;
             and(alloc, all_s, all_t)
         }
-        _ => {
-            let in_x = lies(alloc, m, n)?;
-            none_outside(alloc, in_x, t, scope, m)
-        }
+        Group::Only(p) => match &**p {
+            Place::Named(y) => Ok(Claim::Atom(Atom::Within(n, scope.number(Name::OfPlace(*y))))),
+            _ => none_outside(alloc, true, lies(alloc, m, n)?, t, scope, m),
+        },
+        _ => none_outside(alloc, true, lies(alloc, m, n)?, t, scope, m),
     }
 }
 
-// No place m of which the claim holds is outside of t.
+// No place m of which the claim holds is outside of t; sure says whether the claim is sure of it.
 fn none_outside(
     alloc: Global,
+    sure: bool,
     claim: Claim,
     t: &Group,
     scope: &Scope,
     m: usize,
 ) -> Result<Claim, AllocError>
-    ensures { IfOk result (λ c. said c ≡ not1 (Translation.some_place m (and1 (said claim) (not1 (Translation.is_in t.now (number_of scope.now) m))))) }
+    ensures { IfOk result (λ c. said c ≡ Translation.each_in (number_of scope.now) sure (said claim) t.now m) }
 {
     let in_t = is_in(alloc, t, scope, m)?;
     let outside = and(alloc, claim, not(alloc, in_t)?)?;
-    let some = some_place(alloc, m, outside)?;
+    let some = some_place(alloc, sure, m, outside)?;
     not(alloc, some)
 }

@@ -10,10 +10,10 @@ use Rattle.formulas.specs.declared.name.Name.TheVariants.{OfPlace, OfGroup}
 use Rattle.formulas.specs.declared.formula.Formula.{Formula}
 use Rattle.formulas.specs.Meaning.{Meaning}
 use Rattle.formulas.specs.Names.{names}
-use Rattle.translating.specs.Translation.{claim}
-use Rattle.translating.proofs.Families.{Family}
-use Rattle.translating.proofs.Connectives.{iff_and, iff_not}
-use Rattle.translating.proofs.Formulas.{says}
+use Rattle.translation.specs.Translation.{claim}
+use Rattle.translation.proofs.Families.{Family}
+use Rattle.translation.proofs.Connectives.{iff_and, iff_not}
+use Rattle.translation.proofs.Formulas.{says}
 use Rattle.rows.specs.declared.rule.Asked.{Asked}
 use Rattle.rows.specs.declared.rule.Literal.{Literal}
 use Rattle.rows.specs.declared.rule.Asked.TheVariants.{There, Bit}

@@ -11,11 +11,11 @@ use Rattle.formulas.specs.declared.name.Name.TheVariants.{OfPlace, OfGroup}
 use Rattle.formulas.specs.declared.formula.Formula.{Formula}
 use Rattle.formulas.specs.Meaning.{Env}
 use Rattle.formulas.specs.Names.{names}
-use Rattle.translating.specs.Numbers.{Numbering, numbered}
-use Rattle.translating.proofs.Families.{Family}
-use Rattle.translating.proofs.Standing.{Stands, Stand, stand_left, stand_right}
-use Rattle.translating.proofs.Connectives.{iff_not}
-use Rattle.translating.proofs.Formulas.{says}
+use Rattle.translation.specs.Numbers.{Numbering, numbered}
+use Rattle.translation.proofs.Families.{Family}
+use Rattle.translation.proofs.Standing.{Stands, Stand, stand_left, stand_right}
+use Rattle.translation.proofs.Connectives.{iff_not}
+use Rattle.translation.proofs.Formulas.{says}
 use Rattle.rows.specs.Rules.{Line}
 use Rattle.rows.specs.RowClaims.{below, same_number, Gives}
 use Rattle.rows.specs.Limits.{row_env, AllMean, names_of, groups_ok, bound, row_numbers, with_limits, limits_fail}

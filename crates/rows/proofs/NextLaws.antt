@@ -6,7 +6,7 @@ use Rattle.words.specs.Words.{Sets, Word, bit, sets}
 use Rattle.claims.specs.Claims.{has, put, C, Holds, within}
 use Rattle.claims.proofs.FrontLaws.{both_passed}
 use Rattle.claims.proofs.PlacesLaws.{put_same, put_other}
-use Rattle.translating.proofs.Families.{Family, family_put}
+use Rattle.translation.proofs.Families.{Family, family_put}
 use Rattle.rows.specs.Rules.{Line}
 use Rattle.rows.specs.Rows.{step}
 use Rattle.rows.specs.RowClaims.{below, same_number, Gives}

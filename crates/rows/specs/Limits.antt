@@ -7,8 +7,8 @@ use Rattle.formulas.specs.declared.name.Name.TheVariants.{OfPlace, OfGroup}
 use Rattle.formulas.specs.declared.formula.Formula.{Formula}
 use Rattle.formulas.specs.Meaning.{Env, Meaning}
 use Rattle.formulas.specs.Names.{names}
-use Rattle.translating.specs.Numbers.{Numbering, numbered}
-use Rattle.translating.specs.Translation.{claim}
+use Rattle.translation.specs.Numbers.{Numbering, numbered}
+use Rattle.translation.specs.Translation.{claim}
 use Rattle.rows.specs.declared.rule.Literal.{Literal}
 use Rattle.rows.specs.Rows.{Allowed}
 

@@ -1,7 +1,7 @@
 // What formulas say of a row and of the row after it, as claims.
 ghost use Rattle.std.specs.Prelude.{◌≡◌, IfOk};
 ghost use Rattle.claims.specs.Trees.{said};
-ghost use Rattle.translating.specs.Translation.{claim};
+ghost use Rattle.translation.specs.Translation.{claim};
 ghost use Rattle.rows.specs.Faults.{after_number};
 ghost use Rattle.rows.specs.Limits.{bound, row_numbers, with_limits};
 ghost use Rattle.formula_claims.specs.Scope.{number_of as scope_number};

@@ -6,7 +6,7 @@ use Rattle.automata.proofs.Told.{told}
 use Rattle.formulas.specs.declared.name.Name.{Name as Numbered}
 use Rattle.formulas.specs.declared.formula.Formula.{Formula}
 use Rattle.formulas.specs.Meaning.{Env, Meaning}
-use Rattle.translating.specs.Settles.{Singles, env_of}
+use Rattle.translation.specs.Settles.{Singles, env_of}
 use Rattle.formula_claims.specs.Listed.{listed}
 use Rattle.formula_claims.specs.Claimed.{Claimed, whole, sets_needed}
 use Rattle.trees.specs.declared.tree.Name.{Name}

@@ -8,7 +8,7 @@ use Rattle.formulas.specs.Names.{same_name, Among}
 use Rattle.formulas.proofs.NamesLaws.{name_tells}
 use Rattle.formulas.specs.Sets.{lowest}
 use Rattle.formulas.specs.Meaning.{Env}
-use Rattle.translating.specs.Settles.{Singles, env_of}
+use Rattle.translation.specs.Settles.{Singles, env_of}
 use Rattle.formula_claims.specs.Listed.{position_of, listed}
 use Rattle.trees.specs.declared.tree.Name.{Name}
 use Rattle.trees.specs.declared.tree.Sort.{Sort}

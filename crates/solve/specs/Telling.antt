@@ -6,7 +6,7 @@ use Rattle.claims.specs.Sizes.{Fits}
 use Rattle.formulas.specs.declared.name.Name.{Name}
 use Rattle.formulas.specs.declared.formula.Formula.{Formula}
 use Rattle.formulas.specs.Meaning.{Env, Meaning}
-use Rattle.translating.specs.Settles.{Singles, env_of}
+use Rattle.translation.specs.Settles.{Singles, env_of}
 use Rattle.formula_claims.specs.Listed.{listed}
 use Rattle.formula_claims.specs.Claimed.{whole, sets_needed}
 use Rattle.first_word.specs.declared.first_word.Found.{Found}

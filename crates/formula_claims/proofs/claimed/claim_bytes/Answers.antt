@@ -3,7 +3,7 @@ use Rattle.claims.specs.Claims.{C}
 use Rattle.claims.specs.Rows.{Claim}
 use Rattle.claims.specs.Encoded as encoded
 use Rattle.formulas.specs.Names.{names, Among}
-use Rattle.translating.specs.Settles.{Covers}
+use Rattle.translation.specs.Settles.{Covers}
 use Rattle.formula_claims.proofs.ClaimedLaws.{bytes_are, claimed}
 use Rattle.formula_claims.proofs.claimed.claim_bytes.Goals as goal
 

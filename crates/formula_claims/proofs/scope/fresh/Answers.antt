@@ -1,7 +1,7 @@
 use Rattle.std.proofs.Common.{◌≡◌, ◌+◌, ◌++◌, length, sym, ◌∙◌, arith, length-append}
 use Rattle.std.proofs.lemmas.List.{length-map}
-use Rattle.translating.specs.Numbers.{numbers}
-use Rattle.translating.proofs.NumbersLaws.{fresh_is, fresh_full}
+use Rattle.translation.specs.Numbers.{numbers}
+use Rattle.translation.proofs.NumbersLaws.{fresh_is, fresh_full}
 use Rattle.formula_claims.specs.Scope.{number_of}
 use Rattle.formula_claims.proofs.scope.fresh.Goals as goal
 

@@ -1,5 +1,5 @@
 use Rattle.std.proofs.Common.{◌≡◌, ℕ, ◌<◌, ◌++◌, true}
-use Rattle.translating.specs.Numbers.{numbers, among}
+use Rattle.translation.specs.Numbers.{numbers, among}
 use Rattle.formula_claims.specs.Scope.{number_of}
 use Rattle.formula_claims.proofs.scope.fresh.Given as goal
 

@@ -1,6 +1,6 @@
 use Rattle.std.proofs.Common.{ap}
-use Rattle.translating.specs.Numbers.{Numbering}
-use Rattle.translating.specs.Translation.{claim}
+use Rattle.translation.specs.Numbers.{Numbering}
+use Rattle.translation.specs.Translation.{claim}
 use Rattle.formula_claims.specs.Scope.{number_of as scope_number}
 use Rattle.rules.specs.Numbers.{number_of}
 use Rattle.rules.proofs.FormulaLaws.{bound_down}

@@ -1,5 +1,5 @@
 use Rattle.std.proofs.Common.{◌≡◌, ℕ, suc, ◌+◌, ◌*◌, ap, arith}
-use Rattle.translating.specs.Translation.{claim}
+use Rattle.translation.specs.Translation.{claim}
 use Rattle.rows.specs.Faults.{after_number}
 use Rattle.rows.specs.Limits.{bound}
 use Rattle.rules.proofs.formula.of_formula.Goals as goal

@@ -1,8 +1,8 @@
 // The claim that is made of a formula is a definition and carries no code. What is proved of it stands on the contracts of these functions, so that no check passes without its proof.
 #![tactic(auto)]
 
-ghost use Rattle.translating.specs.Numbers.{LowestFree};
-ghost use Rattle.translating.specs.Settles.{Settles};
+ghost use Rattle.translation.specs.Numbers.{LowestFree};
+ghost use Rattle.translation.specs.Settles.{Settles};
 
 // The claim of a formula holds of a word exactly if the formula holds of the places and sets that the word gives its names.
 pub fn settles_stands() -> bool

@@ -8,9 +8,9 @@ use Rattle.formulas.specs.declared.name.Name.TheVariants.{OfPlace, OfGroup}
 use Rattle.formulas.specs.Meaning.{Env, with_place, with_group}
 use Rattle.formulas.specs.Names.{without, Among}
 use Rattle.formulas.proofs.NamesLaws.{among_left, among_right, among_without, name_tells}
-use Rattle.translating.specs.Numbers.{Numbering, numbered, numbers, fresh}
-use Rattle.translating.proofs.NumbersLaws.{among_number, fresh_free}
-use Rattle.translating.proofs.Families.{Agree, only_agree}
+use Rattle.translation.specs.Numbers.{Numbering, numbered, numbers, fresh}
+use Rattle.translation.proofs.NumbersLaws.{among_number, fresh_free}
+use Rattle.translation.proofs.Families.{Agree, only_agree}
 
 -- set n stands for a name: for a place as the set of it alone
 abbrev pub Stands : Sets → ℕ → Env → Name → Type 0

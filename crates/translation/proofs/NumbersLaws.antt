@@ -6,7 +6,7 @@ use Rattle.std.proofs.lemmas.Bool.Decides.{eqb_tells}
 use Rattle.formulas.specs.declared.name.Name.{Name}
 use Rattle.formulas.specs.Names.{Among}
 use Rattle.automata.proofs.Counting.{pigeon}
-use Rattle.translating.specs.Numbers.{Numbering, numbers, among, free_from, fresh, LowestFree}
+use Rattle.translation.specs.Numbers.{Numbering, numbers, among, free_from, fresh, LowestFree}
 
 pub among_number : (ρ : Numbering) (x : Name) (l : List Name) → Among x l → Among (ρ x) (numbers ρ l)
 among_number ρ x [] h = absurd h

@@ -4,5 +4,7 @@ pub mod Standing
 pub mod Connectives
 pub mod Terms
 pub mod Within
+pub mod OnePlaceLaws
+pub mod Sureness
 pub mod Formulas
 pub mod SettlesLaws

@@ -1,5 +1,5 @@
 -- What the claim of a formula says of a word.
-use Rattle.std.specs.Prelude.{ℕ, ◌↔◌, List, [], ◌∷◌, map}
+use Rattle.std.specs.Prelude.{ℕ, true, cond, ◌↔◌, List, [], ◌∷◌, map}
 use Rattle.words.specs.Words.{Sets, Word, bit, sets}
 use Rattle.claims.specs.Claims.{C, single, and1, Only, Of}
 use Rattle.formulas.specs.declared.name.Name.{Name}
@@ -8,14 +8,14 @@ use Rattle.formulas.specs.declared.formula.Formula.{Formula}
 use Rattle.formulas.specs.Sets.{lowest}
 use Rattle.formulas.specs.Meaning.{Env, Meaning}
 use Rattle.formulas.specs.Names.{names, Among}
-use Rattle.translating.specs.Numbers.{Numbering}
-use Rattle.translating.specs.Translation.{claim}
+use Rattle.translation.specs.Numbers.{Numbering}
+use Rattle.translation.specs.Translation.{sure, claim}
 
--- c, and that the names of places in l are places
-abbrev pub singles : Numbering → List Name → C → C
-singles ρ [] c = c
-singles ρ (OfPlace x ∷ l) c = singles ρ l (and1 (single (ρ (OfPlace x))) c)
-singles ρ (OfGroup x ∷ l) c = singles ρ l c
+-- c, and that the names of places in l are places; that is not said where the claim of a is sure of it
+abbrev pub singles : Numbering → Formula → List Name → C → C
+singles ρ a [] c = c
+singles ρ a (OfPlace x ∷ l) c = singles ρ a l (cond (sure a true x) c (and1 (single (ρ (OfPlace x))) c))
+singles ρ a (OfGroup x ∷ l) c = singles ρ a l c
 
 abbrev pub Singles : Numbering → List Name → Sets → Type 0
 Singles ρ l v = (x : ℕ) → Among (OfPlace x) l → (i : ℕ) × Only v (ρ (OfPlace x)) i
@@ -30,4 +30,4 @@ Covers l a = (x : Name) → Among x (names a) → Among x l
 
 -- the claim holds of a word exactly if the names of places in l are places in it, and the formula holds of the places and sets that it gives the names
 abbrev pub Settles : Type 0
-Settles = (a : Formula) (ρ : Numbering) (l : List Name) (w : Word) → Covers l a → Of (singles ρ l (claim a ρ)) w ↔ (Singles ρ l (sets w) × Meaning a (env_of ρ w))
+Settles = (a : Formula) (ρ : Numbering) (l : List Name) (w : Word) → Covers l a → Of (singles ρ a l (claim a ρ)) w ↔ (Singles ρ l (sets w) × Meaning a (env_of ρ w))
