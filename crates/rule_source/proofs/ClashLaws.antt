@@ -6,7 +6,7 @@ use Rattle.rows.specs.declared.rule.Side.{Side}
 use Rattle.rows.specs.declared.rule.Asked.{Asked}
 use Rattle.rows.specs.declared.rule.Literal.{Literal}
 use Rattle.rows.specs.declared.rule.Side.TheVariants.{Left, Own, Right}
-use Rattle.rows.specs.declared.rule.Asked.TheVariants.{There, Bit}
+use Rattle.rows.specs.declared.rule.Asked.TheVariants.{There}
 use Rattle.rows.specs.Views.{View, shows, seen}
 use Rattle.rows.specs.Patterns.{same, fits}
 use Rattle.rule_source.specs.Clash.{FitsNone, FitsWherever}

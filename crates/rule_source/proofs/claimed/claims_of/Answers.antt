@@ -1,4 +1,4 @@
-use Rattle.std.proofs.Common.{map, sym, ap, ◌∙◌, arith}
+use Rattle.std.proofs.Common.{map, arith}
 use Rattle.rule_file.specs.declared.tree.Line.{Line}
 use Rattle.rule_source.specs.declared.claimed.Claim.{Claim}
 use Rattle.rule_source.specs.Claimed.{claiming}
