@@ -1,5 +1,6 @@
 // Reads cases, with a line `----` behind each, and prints the picture of each. A case has a line for the title, one for the subject,
-// one with the names of the bits, and then rows: for each bit a line with `x` where a module's bit is set.
+// one with the names of the bits, and then rows: for each bit a line with `x` where a module's bit is set, and `.` where it is not. Without such lines
+// there is one row, which has no module. What is not of this form is refused.
 #![tactic(auto)]
 
 ghost use Rattle.std.specs.Prelude.{◌≡◌, ◌<◌, ◌≤◌, length, IfOk, vec_len};
@@ -30,13 +31,36 @@ fn read_row(alloc: Global, lines: &[String], modules: usize) -> Result<Vec<u32>,
     Ok(row)
 }
 
-fn read_rows(alloc: Global, lines: &[String], bits: usize) -> Result<History, AllocError>
+// Refuses marks that are no rows: each row has a line for each bit, all lines are of one length, and no other sign stands in them.
+fn check_marks(lines: &[String], bits: usize, modules: usize) -> anyhow::Result<()>
     requires { 1 ≤ bits }
 {
-    let modules = match lines.first() {
-        Some(line) => line.len(),
-        None => 0,
+    if lines.len() % bits != 0 {
+        bail!("a row has a line for each bit");
+    }
+    for line in lines {
+        if line.len() != modules {
+            bail!("the lines of marks of a case have one length");
+        }
+        if !line
+            .as_bytes()
+            .iter()
+            .all(|mark| *mark == b'x' || *mark == b'.')
+        {
+            bail!("a mark is `x` or `.`");
+        }
+    }
+    Ok(())
+}
+
+fn read_rows(alloc: Global, lines: &[String], bits: usize) -> anyhow::Result<History>
+    requires { 1 ≤ bits }
+{
+    let [line, ..] = lines else {
+        return Ok(History::new(alloc, Vec::new(alloc))?);
     };
+    let modules = line.len();
+    check_marks(lines, bits, modules)?;
     let (first, later) = lines.split_at(bits.min(lines.len()));
     let mut history = History::new(alloc, read_row(alloc, first, modules)?)?;
     for next in later.chunks(bits) {
@@ -79,6 +103,9 @@ fn run(rt: &HostRuntime) -> anyhow::Result<()> {
         } else {
             case.push(line)?;
         }
+    }
+    if !case.is_empty() {
+        bail!("a case ends with a line `----`");
     }
     Ok(())
 }

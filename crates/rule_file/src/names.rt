@@ -11,8 +11,8 @@ use std::alloc::{AllocError, Global};
 
 const MOST_BITS: usize = 5;
 
-// The bytes of a token, as far as they are in the text.
-fn bytes<'a>(text: &'a [u8], token: &Token) -> &'a [u8]
+/// The bytes of a token, as far as they are in the text.
+pub fn bytes<'a>(text: &'a [u8], token: &Token) -> &'a [u8]
     ensures { result.now ≡ bytes_of text.now token.now }
 {
     let rest = &text[token.span.start.min(text.len())..];

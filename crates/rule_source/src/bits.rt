@@ -1,7 +1,11 @@
 // The bits of a file's modules, by their names: a bit's number is the place of its name.
-ghost use Rattle.std.specs.Prelude.{◌≡◌, ◌<◌, ◌≤◌, length, IfOk, IfSome};
+ghost use Rattle.std.specs.Prelude.{◌≡◌, ◌≢◌, ◌<◌, ◌≤◌, All, length, map, take, slice_get, IfOk, OnErr};
+ghost use Rattle.std.specs.String.{string_bytes};
+ghost use Rattle.rule_file.specs.Claims.{bytes_of};
+ghost use Rattle.rule_source.specs.Names.{number_of, set_names};
 
 use crate::fault::Fault;
+use rule_file::names::bytes;
 use rule_file::token::Token;
 use std::alloc::{AllocError, Global};
 use std::str::from_utf8;
@@ -19,8 +23,10 @@ pub struct Bits<'t> {
 }
 
 /// The words of a token. Fails where they are no text.
-pub fn word<'t>(text: &'t str, token: Token) -> Result<&'t str, Fault> {
-    match from_utf8(token.span.of(text.as_bytes())) {
+pub fn word<'t>(text: &'t str, token: Token) -> Result<&'t str, Fault>
+    ensures { IfOk result (λ w. w.now ≡ bytes_of text.now token) }
+{
+    match from_utf8(bytes(text.as_bytes(), &token)) {
         Ok(word) => Ok(word),
         Err(_) => Err(Fault::Bit(token)),
     }
@@ -28,7 +34,10 @@ pub fn word<'t>(text: &'t str, token: Token) -> Result<&'t str, Fault> {
 
 impl<'t> Bits<'t> {
     /// The bits with those names. Fails where there are none or more than five, and for memory.
-    pub fn new(alloc: Global, text: &'t str, tokens: &[Token]) -> Result<Bits<'t>, Fault> {
+    pub fn new(alloc: Global, text: &'t str, tokens: &[Token]) -> Result<Bits<'t>, Fault>
+        ensures text { IfOk result (λ b. b.text.now ≡ text.now) }
+        ensures names { IfOk result (λ b. map (λ n. n.now) b.names.items ≡ map (λ t. bytes_of text.now t) tokens.now) }
+    {
         let mut names = Vec::new(alloc);
         for token in tokens {
             if names.len() >= MOST_BITS {
@@ -51,26 +60,36 @@ impl<'t> Bits<'t> {
         self.names.len() as u8
     }
 
-    /// The number of the bit with the name that a token is. Fails where there is none.
+    /// The number of the bit with the name that a token is: the place of its name. Fails where there is none.
     pub fn number(&self, token: Token) -> Result<u8, Fault>
-        ensures { IfOk result (λ j. j < length self.now.names.items) }
+        ensures number { IfOk result (λ j. j ≡ number_of (map (λ n. n.now) self.now.names.items) (bytes_of self.now.text.now token)) }
+        ensures within { IfOk result (λ j. j < length self.now.names.items) }
+        ensures place { IfOk result (λ j. slice_get (map (λ n. n.now) self.now.names.items) j ≡ Some (bytes_of self.now.text.now token)) }
+        ensures first { IfOk result (λ j. All (λ v. v ≢ bytes_of self.now.text.now token) (take j (map (λ n. n.now) self.now.names.items))) }
+        ensures none { OnErr result (All (λ v. v ≢ bytes_of self.now.text.now token) (map (λ n. n.now) self.now.names.items)) }
     {
-        let name = word(self.text, token)?;
-        match self.names.iter().position(|other| *other == name) {
-            Some(j) => Ok(j as u8),
-            None => Err(Fault::Bit(token)),
+        let name = bytes(self.text.as_bytes(), &token);
+        for (j, other) in self.names.iter().enumerate() {
+            if other.as_bytes() == name {
+                return Ok(j as u8);
+            }
         }
+        Err(Fault::Bit(token))
     }
 
     /// The names of the sets that claims speak of, by their numbers: the bits, `row`, and the bits of the row after, each with `'` behind it.
-    pub fn set_names(&self, alloc: Global) -> Result<Vec<String>, AllocError> {
+    pub fn set_names(&self, alloc: Global) -> Result<Vec<String>, AllocError>
+        ensures { IfOk result (λ all. map (λ s. string_bytes s) all.items ≡ set_names (map (λ n. n.now) self.now.names.items)) }
+    {
         let mut all = Vec::new(alloc);
         for name in &self.names {
             all.push(String::from_str(alloc, *name)?)?;
         }
         all.push(String::from_str(alloc, "row")?)?;
         for name in &self.names {
-            all.push(format!(in alloc; "{name}'")?)?;
+            let mut after = String::from_str(alloc, *name)?;
+            after.push('\'')?;
+            all.push(after)?;
         }
         Ok(all)
     }

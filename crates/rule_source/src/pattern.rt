@@ -1,4 +1,8 @@
 // Patterns: what the words of a pattern ask of a module and its neighbours.
+ghost use Rattle.std.specs.Prelude.{◌≡◌, ◌++◌, [], IfOk, OnOk};
+ghost use Rattle.std.specs.List.{cons_option};
+ghost use Rattle.rule_source.specs.Patterns.{literal_of, literals_in, part_literals};
+
 use crate::bits::Bits;
 use crate::clash::clashes;
 use crate::fault::Fault;
@@ -8,7 +12,9 @@ use rule_file::tree::Term;
 use std::alloc::Global;
 
 // What one word asks; `*` asks nothing.
-fn literal(bits: &Bits<'_>, side: Side, term: &Term) -> Result<Option<Literal>, Fault> {
+fn literal(bits: &Bits<'_>, side: Side, term: &Term) -> Result<Option<Literal>, Fault>
+    ensures { IfOk result (λ o. o ≡ literal_of bits.now side term.now) }
+{
     let (asked, set) = match term {
         Term::Any(_) => return Ok(None),
         Term::Module(_) => (Asked::There, true),
@@ -19,20 +25,35 @@ fn literal(bits: &Bits<'_>, side: Side, term: &Term) -> Result<Option<Literal>, 
     Ok(Some(Literal { side, asked, set }))
 }
 
+// Puts what one word asks behind what the words before it ask.
+fn push_term(
+    bits: &Bits<'_>,
+    side: Side,
+    term: &Term,
+    literals: &mut Vec<Literal>,
+) -> Result<(), Fault>
+    ensures { OnOk result (literals.new.items ≡ literals.old.items ++ cons_option (literal_of bits.now side term.now) []) }
+{
+    if let Some(literal) = literal(bits, side, term)? {
+        if clashes(literals, literal) {
+            return Err(Fault::Unfit(term.span()));
+        }
+        literals.push(literal)?;
+    }
+    Ok(())
+}
+
 // The words of one part, behind what the parts before it ask.
 fn push_part(
     bits: &Bits<'_>,
     side: Side,
     part: &[Term],
     literals: &mut Vec<Literal>,
-) -> Result<(), Fault> {
+) -> Result<(), Fault>
+    ensures { OnOk result (literals.new.items ≡ literals.old.items ++ part_literals bits.now side part.now) }
+{
     for term in part {
-        if let Some(literal) = literal(bits, side, term)? {
-            if clashes(literals, literal) {
-                return Err(Fault::Unfit(term.span()));
-            }
-            literals.push(literal)?;
-        }
+        push_term(bits, side, term, literals)?;
     }
     Ok(())
 }
@@ -42,7 +63,9 @@ pub fn literals_of(
     alloc: Global,
     bits: &Bits<'_>,
     pattern: &rule_file::tree::Pattern,
-) -> Result<Vec<Literal>, Fault> {
+) -> Result<Vec<Literal>, Fault>
+    ensures { IfOk result (λ ls. ls.items ≡ literals_in bits.now pattern.now) }
+{
     let mut literals = Vec::new(alloc);
     push_part(bits, Side::Left, &pattern.left, &mut literals)?;
     push_part(bits, Side::Own, &pattern.own, &mut literals)?;
@@ -55,6 +78,8 @@ pub fn pattern_of(
     alloc: Global,
     bits: &Bits<'_>,
     pattern: &rule_file::tree::Pattern,
-) -> Result<Pattern, Fault> {
+) -> Result<Pattern, Fault>
+    ensures { IfOk result (λ p. p ≡ literals_in bits.now pattern.now) }
+{
     Ok(Pattern::new(literals_of(alloc, bits, pattern)?))
 }

@@ -1,5 +1,11 @@
 // A rule file, read: the rule, what is claimed of it, and its given rows.
-ghost use Rattle.std.specs.Prelude.{◌≡◌, ◌≤◌, IfOk, length};
+ghost use Rattle.std.specs.Prelude.{◌≡◌, ◌+◌, ◌≤◌, IfOk, OnOk, length, map, [], ◌++◌};
+ghost use Rattle.std.specs.List.{cons_option};
+ghost use Rattle.rule_file.specs.Claims.{bytes_of};
+ghost use Rattle.rule_file.specs.Covering.{Covers};
+ghost use Rattle.rule_file.specs.Written.{file_tokens};
+ghost use Rattle.rule_source.specs.Counted.{count_of, is_line, is_limit, is_row, one_if};
+ghost use Rattle.rule_source.specs.Patterns.{allowed_by, allowed_in};
 
 use crate::bits::Bits;
 use crate::fault::Fault;
@@ -116,7 +122,12 @@ struct Reading {
 
 impl Reading {
     // A statement more. Claims are read once the rule stands.
-    fn add(&mut self, alloc: Global, bits: &Bits<'_>, statement: &Statement) -> Result<(), Fault> {
+    fn add(&mut self, alloc: Global, bits: &Bits<'_>, statement: &Statement) -> Result<(), Fault>
+        ensures patterns { OnOk result (self.new.allowed.items ≡ self.old.allowed.items ++ cons_option (allowed_by bits.now statement.now) []) }
+        ensures limits { OnOk result (length self.new.limits.items ≡ length self.old.limits.items + one_if (is_limit statement.now)) }
+        ensures lines { OnOk result (length self.new.table.items ≡ length self.old.table.items + one_if (is_line statement.now)) }
+        ensures rows { OnOk result (length self.new.rows.items ≡ length self.old.rows.items + one_if (is_row statement.now)) }
+    {
         match statement {
             Statement::Allowed(_) | Statement::Table(_) => {}
             Statement::Never(_, _) | Statement::Claim(_, _) => {}
@@ -144,7 +155,12 @@ fn reading_of(
     alloc: Global,
     bits: &Bits<'_>,
     lines: &[rule_file::tree::Line],
-) -> Result<Reading, Fault> {
+) -> Result<Reading, Fault>
+    ensures patterns { IfOk result (λ r. r.allowed.items ≡ allowed_in bits.now lines.now) }
+    ensures limits { IfOk result (λ r. length r.limits.items ≡ count_of is_limit lines.now) }
+    ensures lines { IfOk result (λ r. length r.table.items ≡ count_of is_line lines.now) }
+    ensures rows { IfOk result (λ r. length r.rows.items ≡ count_of is_row lines.now) }
+{
     let mut reading = Reading {
         allowed: Vec::new(alloc),
         limits: Vec::new(alloc),
@@ -159,28 +175,48 @@ fn reading_of(
 
 // The rule of what was read, and the given rows.
 fn made(alloc: Global, bits: &Bits<'_>, reading: Reading) -> Result<(Rule, Vec<Given>), Fault>
-    ensures { IfOk result (λ r. r.0.bits ≡ length bits.now.names.items) }
+    ensures bits { IfOk result (λ r. r.0.bits ≡ length bits.now.names.items) }
+    ensures allowed { IfOk result (λ r. r.0.allowed ≡ reading.allowed) }
+    ensures limits { IfOk result (λ r. r.0.limits ≡ reading.limits) }
+    ensures table { IfOk result (λ r. length r.0.table.items ≡ length reading.table.items) }
+    ensures rows { IfOk result (λ r. r.1 ≡ reading.rows) }
 {
-    let mut table = Vec::new(alloc);
-    for (line, _) in reading.table {
-        table.push(line)?;
-    }
+    let table = reading
+        .table
+        .into_iter()
+        .map(|(line, _)| line)
+        .collect(alloc)?;
     let rule = Rule::new(alloc, bits.count(), reading.allowed, reading.limits, table)?;
     Ok((rule, reading.rows))
 }
 
-/// The rule that statements make. Fails at the first thing that is wrong in them, and for memory.
+/// The rule that statements make, none of which is left out. Fails at the first thing that is wrong in them, and for memory.
 pub fn rule_of(
     alloc: Global,
     bits: &Bits<'_>,
     lines: &[rule_file::tree::Line],
-) -> Result<Rule, Fault> {
+) -> Result<Rule, Fault>
+    ensures bits { IfOk result (λ r. r.bits ≡ length bits.now.names.items) }
+    ensures patterns { IfOk result (λ r. r.allowed.items ≡ allowed_in bits.now lines.now) }
+    ensures limits { IfOk result (λ r. length r.limits.items ≡ count_of is_limit lines.now) }
+    ensures lines { IfOk result (λ r. length r.table.items ≡ count_of is_line lines.now) }
+{
     let (rule, _) = made(alloc, bits, reading_of(alloc, bits, lines)?)?;
     Ok(rule)
 }
 
-/// Reads a rule file. Fails at the first thing that is wrong in it, and for memory.
-pub fn source_of(alloc: Global, text: &str) -> Result<Source<'_>, Fault> {
+/// Reads a rule file: each statement of the text is in the file, and each that makes the rule, or gives a row, is in these. Fails at the first thing that is
+/// wrong in it, and for memory.
+pub fn source_of(alloc: Global, text: &str) -> Result<Source<'_>, Fault>
+    ensures file { IfOk result (λ s. Covers text.now 0 (file_tokens s.file) (length text.now)) }
+    ensures text { IfOk result (λ s. s.bits.text.now ≡ text.now) }
+    ensures names { IfOk result (λ s. map (λ n. n.now) s.bits.names.items ≡ map (λ t. bytes_of text.now t) s.file.bits.items) }
+    ensures bits { IfOk result (λ s. s.rule.bits ≡ length s.bits.names.items) }
+    ensures patterns { IfOk result (λ s. s.rule.allowed.items ≡ allowed_in s.bits s.file.lines.items) }
+    ensures limits { IfOk result (λ s. length s.rule.limits.items ≡ count_of is_limit s.file.lines.items) }
+    ensures lines { IfOk result (λ s. length s.rule.table.items ≡ count_of is_line s.file.lines.items) }
+    ensures rows { IfOk result (λ s. length s.rows.items ≡ count_of is_row s.file.lines.items) }
+{
     let file = read(alloc, text)?;
     let bits = Bits::new(alloc, text, &file.bits)?;
     let (rule, rows) = made(alloc, &bits, reading_of(alloc, &bits, &file.lines)?)?;

@@ -95,3 +95,13 @@ fn a_formula_has_its_place(rt: HostRuntime) -> Result<(), Fail> {
     }
     Ok(())
 }
+
+#[test]
+fn a_module_is_never_missing_itself(rt: HostRuntime) -> Result<(), Fail> {
+    let text = "bits: tray\nallowed:\n  * | none | *\n";
+    match source_of(rt.alloc(), text) {
+        Err(Fault::Unfit(span)) => assert!(rt; span.start == 26 && span.end == 30),
+        _ => return Err(Fail::from("a pattern that nothing fits")),
+    }
+    Ok(())
+}

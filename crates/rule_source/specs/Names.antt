@@ -1,0 +1,12 @@
+-- The names of the bits of a file, and of the sets that its claims speak of.
+use Rattle.std.specs.Prelude.{ℕ, suc, cond, List, [], ◌∷◌, ◌++◌, map, codes}
+use Rattle.std.specs.Str.{bytes_eq}
+
+-- the place of the first name that is the word; of a word that is no name, how many names there are
+abbrev pub number_of : List (List ℕ) → List ℕ → ℕ
+number_of [] w = 0
+number_of (v ∷ vs) w = cond (bytes_eq v w) 0 (suc (number_of vs w))
+
+-- the bits of the row, the row itself, the bits of the row after
+abbrev pub set_names : List (List ℕ) → List (List ℕ)
+set_names names = names ++ codes "row" ∷ [] ++ map (λ n. n ++ codes "'") names
