@@ -1,11 +1,11 @@
 -- One more letter of a path, and one more transition.
-use Rattle.std.proofs.Common.{◌≡◌, ℕ, ◌+◌, ◌*◌, ◌/◌, ◌%◌, ◌^◌, ◌<◌, Bool, true, false, not, ◌&&◌, cond, List, [], ◌∷◌, ◌++◌, length, get_or, map, filter, sym, refl, ap, ◌∙◌, subst, arith}
+use Rattle.std.proofs.Common.{◌≡◌, ℕ, ◌+◌, ◌*◌, ◌/◌, ◌%◌, ◌^◌, ◌<◌, Bool, true, false, not, ◌&&◌, cond, List, [], ◌∷◌, ◌++◌, length, get_or, map, filter, ◌-◌, sym, refl, ap, ◌∙◌, subst, append_assoc, pow-suc, add-one, arith}
 use Rattle.std.proofs.Math.Bool.{and-true}
 use Rattle.std.proofs.Math.Nat.{mod-lt}
 use Rattle.std.proofs.lemmas.Bool.{eqb-true, eqb-false}
 use Rattle.std.proofs.lemmas.List.{map-append}
 use Rattle.std.proofs.lemmas.List.Elements.{filter-append}
-use Rattle.std.proofs.lemmas.Nat.{mod-pow-add}
+use Rattle.std.proofs.lemmas.Nat.{mod-pow-add, pow_pos}
 use Rattle.words.specs.Words.{bit}
 use Rattle.transitions.specs.Patterns.{letter_fits, fits, leads, rest, added}
 use Rattle.transitions.specs.declared.pattern.Letter.{Letter}
@@ -48,7 +48,7 @@ module _ (p : List Letter) (row low high : List ℕ) (s n : ℕ) (e : n + 1 ≡ 
   place r = let h = mod-pow-add r n 1 in subst (λ m. r % 2 ^ m ≡ 2 * (r / 2 % 2 ^ n) + r % 2) e (omega (arith, h))
 
   below : (r : ℕ) → r / 2 % 2 ^ n < 2 ^ n
-  below r = mod-lt (r / 2) (omega arith)
+  below r = mod-lt (r / 2) (pow_pos n)
 
   entry_low : (r : ℕ) → bit 0 r ≡ false → get_or low (r / 2 % 2 ^ n) 0 ≡ get_or row (r % 2 ^ s) 0
   entry_low r b = evens (r / 2 % 2 ^ n) (below r) ∙ ap (λ i. get_or row i 0) (let z = bit_low r b in let h = place r in omega (arith, h, z))
@@ -75,3 +75,36 @@ module _ (p : List Letter) (row low high : List ℕ) (s n : ℕ) (e : n + 1 ≡ 
       by true true l h = ap (λ x. x ∷ []) (h refl)
       by true false l h = ap (λ x. x ∷ []) (l refl)
       by false b l h = refl
+
+half : (s n : ℕ) → n + 1 ≡ s → 2 ^ s / 2 ≡ 2 ^ n
+half s n e = let h : 2 ^ s ≡ 2 ^ n * 2 = subst (λ m. 2 ^ m ≡ 2 ^ n * 2) (sym (add-one n) ∙ e) (pow-suc 2 n) in omega (arith, h)
+
+-- each half of a row over s sets is a row over one set less
+pub halved : (row : List ℕ) (s h : ℕ) → 0 < s → length row ≡ 2 ^ s → h ≡ length row / 2 → h ≡ 2 ^ (s - 1)
+halved row s h o l e = let p = half s (s - 1) (omega arith) in omega (arith, p, l, e)
+
+module _ (p : List Letter) (row low high : List ℕ) (s : ℕ) (o : 0 < s) (l : length row ≡ 2 ^ s) (evens : (j : ℕ) → j < length row / 2 → get_or low j 0 ≡ get_or row (2 * j) 0) (odds : (j : ℕ) → j < length row / 2 → get_or high j 0 ≡ get_or row (2 * j + 1) 0) where
+  size : length row / 2 ≡ 2 ^ (s - 1)
+  size = halved row s (length row / 2) o l refl
+
+  evens' : (j : ℕ) → j < 2 ^ (s - 1) → get_or low j 0 ≡ get_or row (2 * j) 0
+  evens' j h = evens j (omega (arith, size))
+
+  odds' : (j : ℕ) → j < 2 ^ (s - 1) → get_or high j 0 ≡ get_or row (2 * j + 1) 0
+  odds' j h = odds j (omega (arith, size))
+
+  -- what is added behind a letter that leaves the set open, where both halves lead the same
+  pub any_step : (q : List Letter) (given : List ℕ) → q ≡ p ++ Any ∷ [] → given ≡ low → low ≡ high → (a : ℕ) → added q given (s - 1) a ≡ added p row s a
+  any_step q given eq eg same a = ap (λ x. added x given (s - 1) a) eq ∙ ap (λ x. added (p ++ Any ∷ []) x (s - 1) a) eg ∙ added_any p row low high s (s - 1) (omega arith) evens' odds' same a
+
+  -- what is added by both halves, one after the other
+  pub both_step : (q r : List Letter) (given next : List ℕ) → q ≡ p ++ Zero ∷ [] → r ≡ p ++ One ∷ [] → given ≡ low → next ≡ high → (before between after : List ℕ) (a : ℕ) → between ≡ before ++ added q given (s - 1) a → after ≡ between ++ added r next (s - 1) a → after ≡ before ++ added p row s a
+  both_step q r given next eq er eg en before between after a eb ea =
+      ea
+      ∙ ap (λ x. x ++ added r next (s - 1) a) eb
+      ∙ append_assoc before (added q given (s - 1) a) (added r next (s - 1) a)
+      ∙ ap (λ x. before ++ (added x given (s - 1) a ++ added r next (s - 1) a)) eq
+      ∙ ap (λ x. before ++ (added (p ++ Zero ∷ []) x (s - 1) a ++ added r next (s - 1) a)) eg
+      ∙ ap (λ x. before ++ (added (p ++ Zero ∷ []) low (s - 1) a ++ added x next (s - 1) a)) er
+      ∙ ap (λ x. before ++ (added (p ++ Zero ∷ []) low (s - 1) a ++ added (p ++ One ∷ []) x (s - 1) a)) en
+      ∙ ap (λ x. before ++ x) (added_both p row low high s (s - 1) (omega arith) evens' odds' a)

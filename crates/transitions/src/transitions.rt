@@ -14,7 +14,7 @@ struct Halves {
     with: Vec<u32>,
 }
 
-fn halves(alloc: Global, row: &[u32]) -> Result<Halves, AllocError>
+fn split(alloc: Global, row: &[u32]) -> Result<Halves, AllocError>
     ensures without { IfOk result (λ h. length h.without.items ≡ length row.now / 2) }
     ensures with { IfOk result (λ h. length h.with.items ≡ length row.now / 2) }
     ensures evens { IfOk result (λ h. (j : ℕ) → j < length row.now / 2 → slice_index h.without.items j ≡ slice_index row.now (2 * j)) }
@@ -58,7 +58,7 @@ fn follow(
         })?;
         return Ok(());
     }
-    let Halves { without, with } = halves(alloc, row)?;
+    let Halves { without, with } = split(alloc, row)?;
     if without.as_slice() == with.as_slice() {
         let any = longer(alloc, path, Letter::Any)?;
         return follow(alloc, &without, sets - 1, &any, found);
@@ -70,11 +70,7 @@ fn follow(
 }
 
 /// The transitions of a state, by the row of where the columns over so many sets lead: each column fits exactly one pattern, and leads where that transition says. Sets of a column behind the first `sets` do not matter.
-pub fn transitions(
-    alloc: Global,
-    row: &[u32],
-    sets: u32,
-) -> Result<Vec<Transition>, AllocError>
+pub fn transitions(alloc: Global, row: &[u32], sets: u32) -> Result<Vec<Transition>, AllocError>
     requires whole { length row.now ≡ 2 ^ sets }
     ensures leads { IfOk result (λ found. (a : ℕ) → leads found.items a ≡ slice_index row.now (a % 2 ^ sets) ∷ []) }
     ensures letters { IfOk result (λ found. All (HasLetters sets) found.items) }
