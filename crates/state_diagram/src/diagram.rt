@@ -10,7 +10,7 @@ use thiserror::Error;
 use transitions::pattern::Transition;
 use transitions::transitions::transitions;
 
-/// A state: whether it accepts, and where the columns lead from it.
+/// A state: whether it is one that accepts, and where the columns lead from it.
 #[derive(Debug, Drop)]
 pub struct State {
     pub accepts: bool,
