@@ -10,7 +10,7 @@ use thiserror::Error;
 use transitions::pattern::Transition;
 use transitions::transitions::transitions;
 
-/// A state: whether it is one that accepts, and where the columns lead from it.
+/// A state: whether it accepts words that end in it, and where the columns lead from it.
 #[derive(Debug, Drop)]
 pub struct State {
     pub accepts: bool,
@@ -69,7 +69,7 @@ fn is_named(row: &[u32], named: u32) -> bool
 fn state_of(alloc: Global, automaton: &Automaton, q: usize, named: u32) -> Result<State, Undrawn>
     requires state { q < states automaton.now }
     requires sets { named ≤ automaton.now.sets }
-    ensures { MatchResult result (DrawnState automaton.now q) (Unnamed automaton.now named) }
+    ensures { MatchResult result (DrawnState automaton.now named q) (Unnamed automaton.now named) }
 {
     let row = automaton.row(q);
     if !is_named(row, named) {
@@ -89,7 +89,7 @@ pub fn state_diagram<'a>(
     automaton: &Automaton,
     names: &'a [&'a str],
 ) -> Result<StateDiagram<'a>, Undrawn>
-    ensures { MatchResult result (λ d. Drawn automaton.now d.states.items) (Unnamed automaton.now (min (length names.now) automaton.now.sets)) }
+    ensures { MatchResult result (λ d. Drawn automaton.now (min (length names.now) automaton.now.sets) d.states.items) (Unnamed automaton.now (min (length names.now) automaton.now.sets)) }
 {
     let named = names.len().min(automaton.sets as usize) as u32;
     let mut states = Vec::new(alloc);

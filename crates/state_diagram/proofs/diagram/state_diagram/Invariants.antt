@@ -5,4 +5,4 @@ use Rattle.state_diagram.proofs.diagram.state_diagram.Given as goal
 
 -- the states before q are drawn
 abbrev pub invariant-loop-q : goal.invariant-loop-q
-invariant-loop-q l = (length l.states.items ≡ l.q) × ((p : ℕ) (s : State) → slice_get l.states.items p ≡ Some s → DrawnState l.automaton p s)
+invariant-loop-q l = (length l.states.items ≡ l.q) × ((p : ℕ) (s : State) → slice_get l.states.items p ≡ Some s → DrawnState l.automaton l.named p s)

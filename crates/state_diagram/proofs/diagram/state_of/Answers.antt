@@ -30,4 +30,5 @@ returns c =
           (let l = mod-lt a (pow_pos n) in
           let same = c.is_named.ensures.named (search rules) a (omega (arith, h, c.row-row.ensures.columns)) in
           c.in_ok-transitions.ensures.leads a ∙ ap (λ x. x ∷ []) (get_or-take _ row (a % 2 ^ n) 0 (omega (arith, w, l)) ∙ sym same ∙ c.row-row.ensures.leads a h));
+      letters = c.in_ok-transitions.ensures.letters;
     }
