@@ -1,0 +1,7 @@
+// The smallest automaton of a claim.
+#![tactic(auto)]
+
+pub mod automaton;
+pub mod automaton_of;
+pub mod in_order;
+pub mod refusal;

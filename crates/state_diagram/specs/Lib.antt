@@ -1,0 +1,2 @@
+-- What the states of a diagram say of an automaton.
+pub mod Drawn
