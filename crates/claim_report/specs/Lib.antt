@@ -1,4 +1,5 @@
--- What is printed of an answer.
+-- What is printed of an answer; the smallest automaton of a claim.
 pub mod Told
 pub mod Subjects
 pub mod Reported
+pub mod Drawn

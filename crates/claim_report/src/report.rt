@@ -4,6 +4,7 @@ ghost use Rattle.claim_report.specs.Told.{columns_told};
 ghost use Rattle.claim_report.specs.Reported.{Reported, told};
 ghost use Rattle.claim_report.specs.declared.report.Form.TheVariants.{Rows};
 
+use crate::automaton::{Drawing, Smallest, drawn, smallest};
 use crate::declared::{names_of, subject_of};
 use crate::stop::Stop;
 use crate::told::{InColumns, Told};
@@ -24,10 +25,11 @@ pub enum Form {
     Columns,
 }
 
-/// What is wanted of a text: its answer, or the lines that the line tool reads, and no answer.
+/// What is wanted of a text: its answer; its smallest automaton; the lines that the line tool reads.
 #[derive(Clone, Copy, Debug, PartialEq, Eq)]
 pub enum Wish {
     Answer(Form),
+    Automaton(Drawing),
     Bytes,
 }
 
@@ -104,6 +106,26 @@ fn answer_of(
     Ok(words)
 }
 
+// The automaton of a text that is read, or where it is too large.
+fn automaton(
+    alloc: Global,
+    source: Source<'_>,
+    items: &[Item],
+    most: Option<u32>,
+    drawing: Drawing,
+) -> Result<String, Stop> {
+    match smallest(alloc, items, most)? {
+        Smallest::Automaton(automaton) => drawn(alloc, items, &automaton, drawing),
+        Smallest::TooLarge(n) => {
+            let answer = Answer::TooLarge(n);
+            let mut words = in_columns(alloc, &answer)?;
+            let place = place(alloc, source, items, n)?;
+            words.push_str(place.as_str())?;
+            Ok(words)
+        }
+    }
+}
+
 fn reported(
     alloc: Global,
     source: Source<'_>,
@@ -114,6 +136,7 @@ fn reported(
     match wish {
         Wish::Bytes => lines(alloc, &items, most),
         Wish::Answer(form) => answer_of(alloc, source, &items, most, form),
+        Wish::Automaton(drawing) => automaton(alloc, source, &items, most, drawing),
     }
 }
 

@@ -8,6 +8,8 @@ use trees::beside::beside;
 pub enum Stop {
     Text(syntax::fault::Fault),
     Tree(solve::stop::Stop),
+    /// its automaton depends on a set that has no name
+    Unnamed,
     Memory,
 }
 
@@ -68,6 +70,7 @@ impl Stop {
             Stop::Tree(solve::stop::Stop::Most(most)) => format!(in alloc;
                 "{file}: expected --most of at most {most}, which 4 MiB have room for, found more\n"
             ),
+            Stop::Unnamed => format!(in alloc; "{file}: the automaton depends on a set that has no name\n"),
             Stop::Tree(solve::stop::Stop::Memory) | Stop::Memory => {
                 format!(in alloc; "{file}: there is not enough memory\n")
             }

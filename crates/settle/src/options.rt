@@ -1,4 +1,5 @@
 // The command line of `settle`.
+use claim_report::automaton::Drawing;
 use claim_report::report::{Form, Wish};
 use clap::error::Error;
 use clap::{Arg, ArgAction, ArgMatches, Command};
@@ -41,6 +42,14 @@ fn command<'a>(alloc: Global) -> Result<Command<'a>, Error> {
         .long("bytes")
         .action(ArgAction::SetTrue)
         .help("Show the claim and its opposite as bytes, as the line tool reads them, and no answer");
+    let automaton = Arg::new(alloc, "automaton")
+        .long("automaton")
+        .action(ArgAction::SetTrue)
+        .help("Show the smallest automaton of the claim: its states, and which columns lead where");
+    let dot = Arg::new(alloc, "dot")
+        .long("dot")
+        .action(ArgAction::SetTrue)
+        .help("Show the smallest automaton as Graphviz reads it");
     Ok(
         Command::new(alloc, "settle")
             .version("1.0.0")
@@ -49,7 +58,9 @@ fn command<'a>(alloc: Global) -> Result<Command<'a>, Error> {
             .arg(file)?
             .arg(most)?
             .arg(columns)?
-            .arg(bytes)?,
+            .arg(bytes)?
+            .arg(automaton)?
+            .arg(dot)?,
     )
 }
 
@@ -67,6 +78,10 @@ pub fn status_of(error: &Error) -> u8 {
 pub fn options_of<'a>(matches: &'a ArgMatches<'a>) -> Options<'a> {
     let wish = if matches.get_flag("bytes") {
         Wish::Bytes
+    } else if matches.get_flag("dot") {
+        Wish::Automaton(Drawing::Dot)
+    } else if matches.get_flag("automaton") {
+        Wish::Automaton(Drawing::Plain)
     } else if matches.get_flag("columns") {
         Wish::Answer(Form::Columns)
     } else {

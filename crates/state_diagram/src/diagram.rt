@@ -19,8 +19,8 @@ pub struct State {
 
 /// The states of an automaton, the start first. A pattern's letters stand in the order of the names; of a name for which it has no letter it says nothing.
 #[derive(Debug, Drop)]
-pub struct StateDiagram<'a> {
-    pub names: &'a [&'a str],
+pub struct StateDiagram<'n, 't> {
+    pub names: &'n [&'t str],
     pub states: Vec<State>,
 }
 
@@ -84,11 +84,11 @@ fn state_of(alloc: Global, automaton: &Automaton, q: usize, named: u32) -> Resul
 }
 
 /// The diagram of an automaton whose sets have these names, in their order; sets behind the last name have none, and then nothing may depend on them. Names behind the last set stand for sets on which nothing depends.
-pub fn state_diagram<'a>(
+pub fn state_diagram<'n, 't>(
     alloc: Global,
     automaton: &Automaton,
-    names: &'a [&'a str],
-) -> Result<StateDiagram<'a>, Undrawn>
+    names: &'n [&'t str],
+) -> Result<StateDiagram<'n, 't>, Undrawn>
     ensures { MatchResult result (λ d. Drawn automaton.now (min (length names.now) automaton.now.sets) d.states.items) (Unnamed automaton.now (min (length names.now) automaton.now.sets)) }
 {
     let named = names.len().min(automaton.sets as usize) as u32;

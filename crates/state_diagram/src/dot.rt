@@ -6,7 +6,7 @@ use transitions::pattern::Transition;
 
 /// The diagram as a graph in Graphviz's language DOT: a state that accepts is a double circle, an arrow without a label leads to the start, and transitions between the same two states are one arrow, whose label has a line for each pattern.
 #[derive(Clone, Copy)]
-pub struct Dot<'d, 'a>(pub &'d StateDiagram<'a>);
+pub struct Dot<'d, 'n, 't>(pub &'d StateDiagram<'n, 't>);
 
 // A text within a quoted string.
 #[derive(Clone, Copy)]
@@ -90,9 +90,9 @@ impl fmt::Display for Arrows<'_> {
 
 // The names of the sets.
 #[derive(Clone, Copy)]
-struct Names<'d>(&'d [&'d str]);
+struct Names<'n, 't>(&'n [&'t str]);
 
-impl fmt::Display for Names<'_> {
+impl fmt::Display for Names<'_, '_> {
     fn fmt<W: fmt::Write>(&self, f: &mut fmt::Formatter<W>) -> fmt::Result {
         for name in self.0 {
             let quoted = Quoted(name);
@@ -102,7 +102,7 @@ impl fmt::Display for Names<'_> {
     }
 }
 
-impl fmt::Display for Dot<'_, '_> {
+impl fmt::Display for Dot<'_, '_, '_> {
     fn fmt<W: fmt::Write>(&self, f: &mut fmt::Formatter<W>) -> fmt::Result {
         let diagram = self.0;
         write!(f, "digraph automaton {{\n    rankdir = LR;\n")?;

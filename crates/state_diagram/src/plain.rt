@@ -5,13 +5,13 @@ use std::fmt;
 
 /// The diagram in lines: the names of the sets in the order of a pattern's letters, how many states there are, the start, the states that accept, and then each state's transitions, a line for each pattern.
 #[derive(Clone, Copy)]
-pub struct Plain<'d, 'a>(pub &'d StateDiagram<'a>);
+pub struct Plain<'d, 'n, 't>(pub &'d StateDiagram<'n, 't>);
 
 // The numbers of the states that accept.
 #[derive(Clone, Copy)]
-struct Accepting<'d, 'a>(&'d StateDiagram<'a>);
+struct Accepting<'d, 'n, 't>(&'d StateDiagram<'n, 't>);
 
-impl fmt::Display for Accepting<'_, '_> {
+impl fmt::Display for Accepting<'_, '_, '_> {
     fn fmt<W: fmt::Write>(&self, f: &mut fmt::Formatter<W>) -> fmt::Result {
         let diagram = self.0;
         let mut some = false;
@@ -25,7 +25,7 @@ impl fmt::Display for Accepting<'_, '_> {
     }
 }
 
-impl fmt::Display for Plain<'_, '_> {
+impl fmt::Display for Plain<'_, '_, '_> {
     fn fmt<W: fmt::Write>(&self, f: &mut fmt::Formatter<W>) -> fmt::Result {
         let diagram = self.0;
         let count = diagram.states.len();
