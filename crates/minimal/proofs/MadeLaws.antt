@@ -1,5 +1,5 @@
 -- Bytes are one claim only, so what is known of that claim is said of every claim that they are.
-use Rattle.std.proofs.Common.{◌≡◌, ℕ, ◌≤◌, List, subst}
+use Rattle.std.proofs.Common.{ℕ, ◌≤◌, List, subst}
 use Rattle.claims.specs.Claims.{C}
 use Rattle.claims.specs.Rows.{Claim}
 use Rattle.claims.specs.Sizes.{Fits}

@@ -1,8 +1,7 @@
 -- An exact table whose classes are numbered as a search finds them: it is the smallest automaton of its claim, in order.
-use Rattle.std.proofs.Common.{◌≡◌, ℕ, ◌^◌, ◌<◌, ◌≤◌, Bool, true, List, get_or, sym, refl, ap, ◌∙◌, subst, inl, inr}
+use Rattle.std.proofs.Common.{◌≡◌, ℕ, ◌^◌, ◌<◌, ◌≤◌, Bool, true, List, get_or, sym, ap, ◌∙◌, subst, inl, inr}
 use Rattle.words.specs.Words.{Word, Columns}
 use Rattle.words.specs.Languages.{Lang}
-use Rattle.words.specs.Order.{Leq}
 use Rattle.claims.specs.Claims.{C, Of}
 use Rattle.automata.specs.Search.{Explored, Exploring, Ranked}
 use Rattle.automata.specs.Tables.{Collapsed, Connected, Table, run}

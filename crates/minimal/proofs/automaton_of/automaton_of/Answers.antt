@@ -1,8 +1,5 @@
-use Rattle.std.proofs.Common.{◌≡◌, ℕ, ◌+◌, ◌*◌, ◌%◌, ◌^◌, ◌≤◌, ◌<◌, List, length, sym, refl, ap, ◌∙◌, subst, arith}
+use Rattle.std.proofs.Common.{◌≡◌, ◌+◌, ◌*◌, ◌%◌, ◌^◌, ◌≤◌, ◌<◌, length, ◌∙◌, subst, arith}
 use Rattle.std.proofs.lemmas.Nat.{one_shl}
-use Rattle.claims.specs.Claims.{C}
-use Rattle.claims.specs.Rows.{Claim}
-use Rattle.claims.specs.Sizes.{Fits}
 use Rattle.room.specs.Floor.{floor_words}
 use Rattle.lengths.proofs.JudgeLaws.{claim_few, claim_front, lent_whole, work_enough}
 use Rattle.working.specs.declared.wanted.Wanted.TheVariants.{Exact}

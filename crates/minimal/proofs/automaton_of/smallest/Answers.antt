@@ -1,5 +1,4 @@
-use Rattle.std.proofs.Common.{◌≡◌, ℕ, ◌^◌, ◌<◌, sym, ap, ◌∙◌, subst, arith}
-use Rattle.claims.specs.Claims.{C}
+use Rattle.std.proofs.Common.{sym, ap, ◌∙◌, subst, arith}
 use Rattle.tables.specs.Cells.{entry, accepts}
 use Rattle.minimal.specs.Minimal.{Smallest}
 use Rattle.minimal.specs.View.{leads, accepts as s_accepts}

@@ -1,4 +1,4 @@
-use Rattle.std.proofs.Common.{◌≡◌, ℕ, ◌≤◌, length, slice_get, Some}
+use Rattle.std.proofs.Common.{◌≡◌, ℕ, length, slice_get, Some}
 use Rattle.state_diagram.specs.Drawn.{DrawnState}
 use Rattle.state_diagram.specs.declared.diagram.State.{State}
 use Rattle.state_diagram.proofs.diagram.state_diagram.Given as goal
