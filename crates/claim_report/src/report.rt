@@ -14,8 +14,8 @@ use solve::narrowing::narrowest;
 use solve::question::question_of;
 use std::alloc::{AllocError, Global};
 use syntax::parse::read;
-use trees::position::position_of;
 use trees::beside::beside;
+use trees::position::position_of;
 use trees::tree::Item;
 
 /// How an answer is shown: in words, with first words as rows of marks, or in one line, words as numbers.

@@ -1,7 +1,7 @@
 // Why a text gets no answer.
 use std::alloc::{AllocError, AllocFailed, Global};
-use trees::position::Span;
 use trees::beside::beside;
+use trees::position::Span;
 
 /// Why a text gets no answer: it cannot be read, or what is read gets none.
 #[derive(Debug, Drop)]
@@ -66,11 +66,15 @@ impl Stop {
                 let message = fault.message(alloc, text)?;
                 placed(alloc, file, text, fault.span(), message.as_str())
             }
-            Stop::Tree(solve::stop::Stop::Claim(refusal)) => format!(in alloc; "{file}: {refusal}\n"),
+            Stop::Tree(solve::stop::Stop::Claim(refusal)) => format!(in alloc;
+                "{file}: {refusal}\n"
+            ),
             Stop::Tree(solve::stop::Stop::Most(most)) => format!(in alloc;
                 "{file}: expected --most of at most {most}, which 4 MiB have room for, found more\n"
             ),
-            Stop::Unnamed => format!(in alloc; "{file}: the automaton depends on a set that has no name\n"),
+            Stop::Unnamed => format!(in alloc;
+                "{file}: the automaton depends on a set that has no name\n"
+            ),
             Stop::Tree(solve::stop::Stop::Memory) | Stop::Memory => {
                 format!(in alloc; "{file}: there is not enough memory\n")
             }

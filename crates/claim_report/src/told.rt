@@ -84,7 +84,10 @@ impl fmt::Display for Both<'_, '_, '_> {
             word: self.second,
         };
         writeln!(f, "both {a} {b}")?;
-        write!(f, "It holds of some {subject} and not of others. First{first}")?;
+        write!(
+            f,
+            "It holds of some {subject} and not of others. First{first}"
+        )?;
         write!(f, "It does not hold first{second}")
     }
 }

@@ -8,7 +8,7 @@ ghost use Rattle.resolve.specs.Asks.{Asks, AsksMore, declared, all_hold};
 use crate::fault::Fault;
 use crate::scope::{Free, Scope, defined, named};
 use crate::statements::numbered;
-use crate::terms::{Resolver, MOST_CALLS, MOST_PARTS, inner};
+use crate::terms::{MOST_CALLS, MOST_PARTS, Resolver, inner};
 use formulas::formula::Formula;
 use std::alloc::Global;
 use trees::position::Span;

@@ -5,8 +5,8 @@ use crate::token::{Kind, Token};
 use std::alloc::{AllocError, AllocFailed};
 use std::fmt;
 use std::str::from_utf8;
-use trees::position::Span;
 use thiserror::Error;
+use trees::position::Span;
 
 /// What could stand at a place.
 #[derive(Clone, Copy, Debug, PartialEq, Eq)]

@@ -131,7 +131,11 @@ impl fmt::Display for Shown<'_, '_, '_> {
     fn fmt<W: fmt::Write>(&self, f: &mut fmt::Formatter<W>) -> fmt::Result {
         let (file, message) = (self.file, self.message);
         match message.fault.span(message.text) {
-            Some(span) => write!(f, "{}", beside(file, message.text.as_bytes(), span, message)),
+            Some(span) => write!(
+                f,
+                "{}",
+                beside(file, message.text.as_bytes(), span, message)
+            ),
             None => writeln!(f, "{file}: {message}"),
         }
     }

@@ -3,13 +3,13 @@
 // that the number of a set is the place of its name in that line.
 use crate::bits::Bits;
 use crate::fault::Fault;
-use resolve::asked::ask;
 use formulas::formula::Formula;
+use resolve::asked::ask;
 use rule_file::token::Token;
 use std::alloc::{AllocError, Global};
 use syntax::parse::read;
-use trees::position::Span;
 use syntax::token::{Kind, tokens};
+use trees::position::Span;
 use trees::tree::Item;
 
 /// What a formula speaks of.

@@ -8,7 +8,8 @@ use std::alloc::Global;
 const ABOUT: &str =
     "Says of which places and finite sets of places a claim holds, for rows of every length";
 
-const MORE: &str = "Without FILE, or where it is `-`, the claim is read from standard input. A text that is at fault is told on
+const MORE: &str =
+    "Without FILE, or where it is `-`, the claim is read from standard input. A text that is at fault is told on
 standard error, and the status is 1.
 
 docs/CLAIMS.md says how a claim is written.";
@@ -41,7 +42,9 @@ fn command<'a>(alloc: Global) -> Result<Command<'a>, Error> {
     let bytes = Arg::new(alloc, "bytes")
         .long("bytes")
         .action(ArgAction::SetTrue)
-        .help("Show the claim and its opposite as bytes, as the line tool reads them, and no answer");
+        .help(
+            "Show the claim and its opposite as bytes, as the line tool reads them, and no answer",
+        );
     let automaton = Arg::new(alloc, "automaton")
         .long("automaton")
         .action(ArgAction::SetTrue)

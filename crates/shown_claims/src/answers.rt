@@ -1,8 +1,8 @@
 // Answers in one form: `never`, or the columns of the first row.
 use anyhow::bail;
+use claim_report::report::{Form, Source, Wish, report};
 use display::columns::Columns;
 use rule_check::verdict::Verdict;
-use claim_report::report::{Form, Source, Wish, report};
 use std::alloc::Global;
 
 /// What is found of a rule of modules of so many bits. A module's column has the row's bit, too.

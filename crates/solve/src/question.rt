@@ -7,11 +7,11 @@ ghost use Rattle.solve.specs.Questions.{Puts, HoldsOf, FailsOf, names_of, number
 
 use crate::stop::Stop;
 use formula_claims::claimed::claim_bytes;
+use formulas::formula::Formula;
+use formulas::name::Name;
 use resolve::asked::{Asked, Stated, ask};
 use resolve::built::{and, negation};
 use resolve::scope::Free;
-use formulas::formula::Formula;
-use formulas::name::Name;
 use std::alloc::{AllocError, Global};
 use trees::tree::{Item, Sort};
 

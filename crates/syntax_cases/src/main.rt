@@ -4,9 +4,9 @@
 use std::alloc::{AllocError, Global};
 use std::io::{BufRead, BufReader};
 use syntax::fault::Fault;
-use trees::beside::beside;
 use syntax::parse::read;
 use syntax::print::{Style, items};
+use trees::beside::beside;
 
 // A fault as it is shown, or its message where nothing in the text is at fault.
 fn shown_fault(heap: Global, text: &[u8], fault: &Fault) -> Result<String, AllocError> {
