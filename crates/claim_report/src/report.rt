@@ -4,7 +4,7 @@ ghost use Rattle.claim_report.specs.Told.{columns_told};
 ghost use Rattle.claim_report.specs.Reported.{Reported, told};
 ghost use Rattle.claim_report.specs.declared.report.Form.TheVariants.{Rows};
 
-use crate::automaton::{Drawing, Smallest, drawn, smallest};
+use crate::automaton::{Drawing, Smallest, drawn, smallest_automaton};
 use crate::declared::{names_of, subject_of};
 use crate::stop::Stop;
 use crate::told::{InColumns, Told};
@@ -114,7 +114,7 @@ fn automaton(
     most: Option<u32>,
     drawing: Drawing,
 ) -> Result<String, Stop> {
-    match smallest(alloc, items, most)? {
+    match smallest_automaton(alloc, items, most)? {
         Smallest::Automaton(automaton) => drawn(alloc, items, &automaton, drawing),
         Smallest::TooLarge(n) => {
             let answer = Answer::TooLarge(n);
