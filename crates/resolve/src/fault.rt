@@ -1,4 +1,7 @@
 // Why a text that can be read says nothing: a name that is not declared, a set where a place must stand, and the like.
+ghost use Rattle.std.specs.Prelude.{◌≡◌};
+ghost use Rattle.resolve.specs.declared.fault.Fault.TheVariants.{Memory};
+
 use std::alloc::{AllocError, AllocFailed, Global};
 use std::str::from_utf8;
 use trees::position::Span;
@@ -28,12 +31,16 @@ pub enum Fault {
 }
 
 impl From<AllocError> for Fault {
+    ghost from_gives = { λ _ e. e ≡ Memory };
+
     fn from(_error: AllocError) -> Fault {
         Fault::Memory
     }
 }
 
 impl<T: Drop> From<AllocFailed<T>> for Fault {
+    ghost from_gives = { λ _ e. e ≡ Memory };
+
     fn from(_error: AllocFailed<T>) -> Fault {
         Fault::Memory
     }

@@ -3,7 +3,8 @@ ghost use Rattle.std.specs.Prelude.{◌≡◌, ℕ, List, string_bytes, IfSome, 
 ghost use Rattle.std.specs.Str.{bytes_eq};
 ghost use Rattle.formulas.specs.Meaning.{Env};
 ghost use Rattle.resolve.specs.Says.{Value, none, says_of};
-ghost use Rattle.resolve.specs.Scopes.{meant, context, Steady};
+ghost use Rattle.resolve.specs.Scopes.{meant, context, Steady, term_sort, signature};
+ghost use Rattle.resolve.specs.Faults.{sort_of, predicate_of};
 
 use formulas::formula::{Group, Place};
 use trees::tree::{Name, Predicate, Sort};
@@ -45,7 +46,8 @@ pub fn is_same(a: &Name, b: &Name) -> bool
 
 // The term that a name stands for.
 pub fn named<'s>(scope: &'s Scope<'s>, name: &Name) -> Option<&'s Term>
-    ensures { MatchOption result ((e : Env) → (context scope.now e).value (string_bytes name.now.text) ≡ none) (λ t. (e : Env) → (context scope.now e).value (string_bytes name.now.text) ≡ meant t.now e) }
+    ensures means { MatchOption result ((e : Env) → (context scope.now e).value (string_bytes name.now.text) ≡ none) (λ t. (e : Env) → (context scope.now e).value (string_bytes name.now.text) ≡ meant t.now e) }
+    ensures sorts { MatchOption result (sort_of (signature scope.now) (string_bytes name.now.text) ≡ None) (λ t. sort_of (signature scope.now) (string_bytes name.now.text) ≡ Some (term_sort t.now)) }
 {
     match scope {
         Scope::Outermost => None,
@@ -63,6 +65,7 @@ pub fn named<'s>(scope: &'s Scope<'s>, name: &Name) -> Option<&'s Term>
 pub fn defined<'s>(scope: &'s Scope<'s>, name: &Name) -> Option<Known<'s>>
     ensures says { MatchOption result ((e : Env) (vs : List Value) → (context scope.now e).says (string_bytes name.now.text) vs → ⊥) (λ k. (e : Env) (vs : List Value) → (context scope.now e).says (string_bytes name.now.text) vs ↔ says_of k.predicate.now (context k.scope.now e) vs) }
     ensures steady { IfSome result (λ k. (n : ℕ) → Steady n scope.now → Steady n k.scope.now) }
+    ensures known { MatchOption result (predicate_of (signature scope.now) (string_bytes name.now.text) ≡ None) (λ k. predicate_of (signature scope.now) (string_bytes name.now.text) ≡ Some (k.predicate.now, signature k.scope.now)) }
 {
     match scope {
         Scope::Outermost => None,

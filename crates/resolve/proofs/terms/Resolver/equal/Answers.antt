@@ -4,8 +4,8 @@ use Rattle.resolve.proofs.Iff.{iff_trans, iff_and}
 use Rattle.resolve.proofs.ValuesLaws.{same_sets}
 use Rattle.resolve.proofs.terms.Resolver.equal.Goals as goal
 
-pub returns : goal.returns
-returns c = λ e.
+pub returns-clause-says : goal.returns-clause-says
+returns-clause-says c = λ e.
     let s = context c.args.scope.now e in
     let sets = c.in_ok-first-in-Set.ensures.sets e in
     iff_trans (c.in_ok-and-in-Set.ensures e)
