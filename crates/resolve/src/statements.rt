@@ -20,7 +20,7 @@ use trees::tree::{Binary, Expr, Name, Parameter, Quantifier, Sort, Unary};
 pub fn numbered(sort: Sort, number: u32) -> Term
     ensures means { (e : Env) → meant result e ≡ given sort number e }
     ensures settled { Settled (number + 1) result }
-    ensures sorted { term_sort result ≡ sort }
+    ensures sorts { term_sort result ≡ sort }
 {
     match sort {
         Sort::Place => Term::Place(Place::Named(number)),
@@ -328,7 +328,7 @@ impl Resolver {
         calls: u32,
     ) -> Result<Term, Fault>
         ensures says { IfOk result (λ t. (e : Env) → value term.now (context scope.now e) ≡ meant t e) }
-        ensures sorted { IfOk result (λ t. term_sort t ≡ sort) }
+        ensures sorts { IfOk result (λ t. term_sort t ≡ sort) }
         ensures faults { IfErr result (λ f. IsLimit f ⊎ Faulty (signature scope.now) (class_of_sort sort) term.now f) }
     {
         let left = self.parts;
