@@ -13,7 +13,7 @@ use Rattle.resolve.proofs.FaultsLaws.{passed, if_err}
 
 pub is_known : {A B : Type 0} (o : Option A) (q : Option B) (F : A → B) → MatchOption o (q ≡ None) (λ k. q ≡ Some (F k)) → is_some o ≡ true → IsSome q
 is_known None q F h is = cc
-is_known (Some k) q F h is = subst (λ x. IsSome x) (sym h) tt
+is_known (Some k) q F h is = subst (λ x. IsSome x) (sym h) refl
 
 pub text_passed : {A : Type 0} (r : Result A Fault) (k : Signature) (items rest : List Item) (first : Item) (P : Fault → Type 0) (g : Fault) → IsErrAnd r (λ x. x ≡ g) → items ≡ first ∷ rest →
     (P g → FaultyText (first ∷ rest) k g) → IsLimit g ⊎ P g → IfErr r (λ f. IsLimit f ⊎ FaultyText items k f)

@@ -10,10 +10,3 @@ check-requires t c =
     let n = c.args.level in
     let e : c.in-Some.next ≡ suc n = omega (arith, c.in-Some.ensures) in
     (search rules, (subst (λ m. Settled m c.numbered-term.result) (sym e) (subst (λ m. Settled m c.numbered-term.result) (add-one n) c.numbered-term.ensures.settled), subst (λ m. Steady m c.args.scope.now) (sym e) (steady_more n c.args.scope.now c.requires)))
-
-pub check-returns : goal.check-returns
-check-returns t c = 
-    let ps = c.args.parameters.now in
-    let qs = take (length ps - 1) (drop 1 ps) in
-    let parts = head_rest ps c.parameter-item.result (omega (arith, c.in-len1-up.len_at_least)) c.parameter-item.is in
-    check_more c.check.result (signature c.args.scope.now) _ ps qs c.parameter-item.result c.args.body.now parts c.numbered-term.ensures.sorts c.check.ensures

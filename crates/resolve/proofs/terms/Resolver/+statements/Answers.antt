@@ -133,8 +133,9 @@ formula-returns-then-wanted-len-clause-faults t c =
     let at = c.in-Call in
     let known = c.in-Some.known in
     let wanted : c.len-wanted.result ≡ length known.predicate.now.parameters.items = search rules in
-    let given : c.len.result ≡ length at.arguments.items = search rules in
-    inr (call_count (signature c.args.scope.now) c.args.expr.now at.name at.arguments at.span known.predicate.now (signature known.scope.now) c.len-wanted.result c.len.result at.is c.in-Some.ensures.known wanted given c.if-wanted-len.true)
+    let compared : c.len.result ≡ length at.arguments.items = search rules in
+    let given : c.len-then-wanted-len.result ≡ length at.arguments.items = search rules in
+    inr (call_count (signature c.args.scope.now) c.args.expr.now at.name at.arguments at.span known.predicate.now (signature known.scope.now) c.len-wanted.result c.len-then-wanted-len.result at.is c.in-Some.ensures.known wanted given (λ q. c.if-wanted-len.true (q ∙ given ∙ sym compared)))
 
 pub formula-returns-in_default-defined-clause-faults : goal.formula-returns-in_default-defined-clause-faults
 formula-returns-in_default-defined-clause-faults t c = 
