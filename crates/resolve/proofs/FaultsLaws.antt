@@ -7,18 +7,17 @@ use Rattle.trees.specs.declared.tree.Parameter.{Parameter}
 use Rattle.trees.specs.declared.tree.Predicate.{Predicate}
 use Rattle.trees.specs.declared.tree.Quantifier.{Quantifier}
 use Rattle.trees.specs.declared.tree.Sort.{Sort}
-use Rattle.trees.specs.declared.tree.Sort.TheVariants.{Place as OfPlace, Set as OfSet}
 use Rattle.trees.specs.declared.tree.Unary.{Unary as OneSign}
-use Rattle.trees.specs.declared.tree.Unary.TheVariants.{Not, Min, Max, IsEmpty}
+use Rattle.trees.specs.declared.tree.Unary.TheVariants.{Min, Max}
 use Rattle.trees.specs.declared.tree.Binary.{Binary as TwoSign}
-use Rattle.trees.specs.declared.tree.Binary.TheVariants.{Iff, Implies, Or, And, In, NotIn, Sub, Equal, Differs, Less, AtMost, Greater, AtLeast, Union, Inter, Without, Plus, Minus}
-use Rattle.trees.specs.declared.tree.Expr.{Expr, Listed, Named, Unary, Binary, Bound, Call, True, False, Empty, Number, Listed', Unary', Binary', Bound', Call'}
+use Rattle.trees.specs.declared.tree.Binary.TheVariants.{Union, Inter, Without, Plus, Minus}
+use Rattle.trees.specs.declared.tree.Expr.{Expr, Listed, Named, Unary, Binary, Bound, Call}
 use Rattle.resolve.specs.declared.fault.Class.{Class}
 use Rattle.resolve.specs.declared.fault.Class.TheVariants.{Formula, Place, Set}
 use Rattle.resolve.specs.declared.fault.Fault.{Fault}
 use Rattle.resolve.specs.declared.fault.Fault.TheVariants.{Class as OtherClass, Number as NoNumber, Name as NoName, Predicate as NoPredicate, Arguments as OtherCount}
 use Rattle.resolve.specs.declared.scope.Term.{Term}
-use Rattle.resolve.specs.Faults.{Signature, named, Faulty, in_operand, in_list, in_bound, in_argument, in_body, no_predicate, other_count, predicate_of, with_names, with_parameters, as_parameters, class_of_sort, no_number, no_name, other_class, sort_of, IsLimit, IsNumber, NeedsNumber, Among, operands, each_of, class_of, class_of_name, side, Connects}
+use Rattle.resolve.specs.Faults.{Signature, named, Faulty, in_operand, in_list, in_bound, in_argument, in_body, no_predicate, other_count, predicate_of, with_names, with_parameters, as_parameters, class_of_sort, no_number, no_name, other_class, sort_of, IsLimit, IsNumber, NeedsNumber, Among, operands, each_of, class_of, side}
 
 pub unfit : {k : Signature} {w c : Class} {e : Expr} (s : Span) → class_of k e ≡ Some c → (c ≡ w → ⊥) → s ≡ span_of e → Faulty k w e (OtherClass w c s)
 unfit {k} {w} {c} {e} s is differs at = subst (λ x. Faulty k w e (OtherClass w c x)) (sym at) (other_class is differs)
@@ -144,7 +143,6 @@ module _ {A : Type 0} (r : Result A Fault) (k : Signature) (e : Expr) where
   pub unless_err : (P : Type 0) → IfErr r (λ f. IsLimit f ⊎ Faulty k Formula e f) → IfErr r (λ f. IsLimit f ⊎ ((P → ⊥) → Faulty k Formula e f))
   unless_err P h = if_err r (λ f. IsLimit f ⊎ Faulty k Formula e f) (λ f. IsLimit f ⊎ ((P → ⊥) → Faulty k Formula e f)) (λ g. unless k e g) h
 
-
 -- what a quantifier says of its names
 pub bound_more : {A : Type 0} (r : Result A Fault) (k : Signature) (sort s : Sort) (x : Name) (xs rest : List Name) (body : Expr) (g : Fault) → IsErrAnd r (λ y. y ≡ g) → xs ≡ x ∷ rest → s ≡ sort →
     IsLimit g ⊎ Faulty (with_names sort rest (named (string_bytes x.text) s k)) Formula body g → IfErr r (λ f. IsLimit f ⊎ Faulty (with_names sort xs k) Formula body f)
@@ -180,10 +178,6 @@ module _ {A : Type 0} (r : Result A Fault) (around k : Signature) (ps qs : List 
       (if_err r (λ f. InCall around (named (string_bytes p.name.text) p.sort k) qs ys body f) (λ f. InCall around k (p ∷ qs) (a ∷ ys) body f) more
       (subst (λ y. IfErr r (λ f. InCall around (named (string_bytes p.name.text) y k) qs ys body f)) same h)))
 
-pub call_short : {A : Type 0} (r : Result A Fault) (around k d : Signature) (ps : List Parameter) (xs : List Expr) (body : Expr) → (length ps ≡ length xs → ⊥) →
-    IfErr r (λ f. IsLimit f ⊎ Faulty d Formula body f) → IfErr r (λ f. InCall around k ps xs body f)
-call_short r around k d ps xs body differs h = if_err r (λ f. IsLimit f ⊎ Faulty d Formula body f) (λ f. InCall around k ps xs body f) (λ g. elim [ inl l ↦ inl l | inr q ↦ inr (λ same. absurd (differs same)) ]) h
-
 module _ (k : Signature) (e : Expr) (x : Name) (all : Vec Expr Global) (span : Span) where
   pub call_unknown : e ≡ Call x all span → predicate_of k (string_bytes x.text) ≡ None → Faulty k Formula e (NoPredicate x.span)
   call_unknown shape h = subst (λ y. Faulty k Formula y (NoPredicate x.span)) (sym shape) (no_predicate all h)
@@ -202,14 +196,13 @@ module _ (k : Signature) (e : Expr) (x : Name) (all : Vec Expr Global) (span : S
       subst (λ y. IfErr r (λ f. IsLimit f ⊎ Faulty k Formula y f)) (sym shape)
       (if_err r (λ f. InCall k d ps xs body f) (λ f. IsLimit f ⊎ Faulty k Formula (Call x all span) f)
       (λ g. elim [
-        inl l ↦ inl l
-      | inr t ↦ elim (t same) [
-          inl q ↦ inr (in_argument all known (subst (λ (l : List Expr). Among (q.0, q.1.0) (as_parameters p.parameters.items l)) j (subst (λ (l : List Parameter). Among (q.0, q.1.0) (as_parameters l xs)) i q.1.1.0)) q.1.1.1)
-        | inr q ↦ inr (in_body all known (subst (λ y. Faulty (with_parameters p.parameters.items d) Formula y g) b (subst (λ (l : List Parameter). Faulty (with_parameters l d) Formula body g) i q))) ] ]) h)
+        | inl l ↦ inl l
+        | inr t ↦ elim (t same) [
+          | inl q ↦ inr (in_argument all known (subst (λ (l : List Expr). Among (q.0, q.1.0) (as_parameters p.parameters.items l)) j (subst (λ (l : List Parameter). Among (q.0, q.1.0) (as_parameters l xs)) i q.1.1.0)) q.1.1.1)
+          | inr q ↦ inr (in_body all known (subst (λ y. Faulty (with_parameters p.parameters.items d) Formula y g) b (subst (λ (l : List Parameter). Faulty (with_parameters l d) Formula body g) i q)))
+        ]
+      ]) h)
 
 pub none_known : {A B : Type 0} (o : Option A) (q : Option B) (F : A → B) → ((x : A) → o ≡ Some x → ⊥) → MatchOption o (q ≡ None) (λ k. q ≡ Some (F k)) → q ≡ None
 none_known None q F differs h = h
 none_known (Some k) q F differs h = absurd (differs k refl)
-
-pub unless_not : {A : Type 0} (r : Result A Fault) (P : Type 0) (k : Signature) (e : Expr) → (P → ⊥) → IfErr r (λ f. IsLimit f ⊎ ((P → ⊥) → Faulty k Formula e f)) → IfErr r (λ f. IsLimit f ⊎ Faulty k Formula e f)
-unless_not r P k e differs h = if_err r (λ f. IsLimit f ⊎ ((P → ⊥) → Faulty k Formula e f)) (λ f. IsLimit f ⊎ Faulty k Formula e f) (λ g. elim [ inl l ↦ inl l | inr q ↦ inr (q differs) ]) h

@@ -10,19 +10,20 @@ ghost use Rattle.resolve.specs.Asks.{Asks, AsksMore, declared, all_hold};
 use crate::fault::Fault;
 use crate::scope::{Free, Scope, defined, named};
 use crate::statements::numbered;
-use crate::terms::{Resolver, MOST_CALLS, MOST_PARTS, inner};
+use crate::terms::{MOST_CALLS, MOST_PARTS, Resolver, inner};
 use formulas::formula::Formula;
 use std::alloc::Global;
 use trees::position::Span;
 use trees::tree::{Expr, Item, Name, Parameter, Sort};
 
-// A formula of the text, as it stands there and as a formula over numbers.
+/// A formula of the text, as it stands there and as a formula over numbers.
 #[derive(Drop)]
 pub struct Stated<'a> {
     pub expr: &'a Expr,
     pub formula: Formula,
 }
 
+/// The names that a text declares, what it assumes of them and what it claims.
 #[derive(Drop)]
 pub struct Asked<'a> {
     pub free: Vec<Free<'a>>,
@@ -160,7 +161,10 @@ impl Resolver {
     }
 }
 
-// What a text asks, or the first fault in it.
+/// What a text asks.
+///
+/// # Errors
+/// A limit, or a fault that the text has: the first that is met.
 pub fn ask(heap: Global, items: &[Item]) -> Result<Asked<'_>, Fault>
     ensures asks { IfOk result (λ asked. Asks items.now asked) }
     ensures faults { IfErr result (λ f. IsLimit f ⊎ FaultyText items.now outermost f) }

@@ -16,7 +16,7 @@ use formulas::formula::{Formula, Group, Place};
 use std::alloc::{AllocError, Global};
 use trees::tree::{Binary, Expr, Name, Parameter, Quantifier, Sort, Unary};
 
-// The term of a name with a number.
+/// The term of a name with a number.
 pub fn numbered(sort: Sort, number: u32) -> Term
     ensures means { (e : Env) → meant result e ≡ given sort number e }
     ensures settled { Settled (number + 1) result }
@@ -172,7 +172,10 @@ impl Resolver {
         }
     }
 
-    // What an expression says.
+    /// What an expression says, as a formula over numbers; names that are bound take the numbers from `level` on.
+    ///
+    /// # Errors
+    /// A limit, or a fault that the expression has where a formula is wanted.
     #[cycle(statements)]
     pub fn formula<'s>(
         &mut self,

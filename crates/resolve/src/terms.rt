@@ -18,19 +18,19 @@ use std::alloc::Global;
 use trees::position::Span;
 use trees::tree::{Binary, Expr, Name, Unary};
 
-// How many parts a text may have once its predicates are expanded.
+/// How many parts a text may have once its predicates are expanded.
 pub const MOST_PARTS: u32 = 4000;
-// How many calls may be open.
+/// How many calls may be open.
 pub const MOST_CALLS: u32 = 3000;
 
-// Makes terms and formulas, as long as parts may still be made.
+/// Makes terms and formulas, as long as parts may still be made.
 #[derive(Drop)]
 pub struct Resolver {
     pub heap: Global,
     pub parts: u32,
 }
 
-// One call less may be open from here on.
+/// One call less may be open from here on. At 0 the limit `Deep` is told, at `span`.
 pub fn inner(calls: u32, span: Span) -> Result<u32, Fault>
     ensures less { IfOk result (λ left. left + 1 ≡ calls) }
     ensures faults { IfErr result (λ f. IsLimit f) }
@@ -53,7 +53,7 @@ fn number(expr: &Expr) -> Result<u32, Fault>
 }
 
 impl Resolver {
-    // One part less may be made from here on.
+    /// One part less may be made from here on. At 0 the limit `Large` is told, at `span`.
     pub fn spend(&mut self, span: Span) -> Result<(), Fault>
         ensures { IfErr result (λ f. IsLimit f) }
     {
@@ -172,7 +172,10 @@ impl Resolver {
         }
     }
 
-    // The place or the set that an expression stands for.
+    /// The place or the set that an expression stands for.
+    ///
+    /// # Errors
+    /// A limit; that it is a formula, where `wanted` stands; or another fault that it has.
     #[cycle(terms)]
     pub fn term(
         &mut self,
@@ -235,6 +238,10 @@ impl Resolver {
         }
     }
 
+    /// The place that an expression stands for.
+    ///
+    /// # Errors
+    /// A limit, or a fault that the expression has where a place is wanted.
     #[cycle(terms)]
     pub fn place(&mut self, expr: &Expr, scope: &Scope<'_>, calls: u32) -> Result<Place, Fault>
         ensures means { IfOk result (λ t. (e : Env) → value expr.now (context scope.now e) ≡ place (Meaning.value t e)) }
@@ -247,6 +254,10 @@ impl Resolver {
         }
     }
 
+    /// The set that an expression stands for.
+    ///
+    /// # Errors
+    /// A limit, or a fault that the expression has where a set is wanted.
     #[cycle(terms)]
     pub fn group(&mut self, expr: &Expr, scope: &Scope<'_>, calls: u32) -> Result<Group, Fault>
         ensures means { IfOk result (λ t. (e : Env) → value expr.now (context scope.now e) ≡ set (members t e)) }

@@ -1,5 +1,4 @@
-use Rattle.std.proofs.Common.{◌≡◌, ◌⊎◌, inl, inr, List, suc, ◌-◌, ◌++◌, ◌∷◌, map, length, take, drop, ◌∙◌, sym, refl, ap, subst, arith, rules, add-one, OnOk}
-use Rattle.formulas.specs.Meaning.{Env}
+use Rattle.std.proofs.Common.{◌≡◌, inl, inr, List, suc, ◌-◌, ◌++◌, ◌∷◌, map, length, take, drop, ◌∙◌, sym, refl, ap, subst, arith, rules, add-one, OnOk}
 use Rattle.resolve.specs.Says.{holds, bind, given, declare, count, text_from}
 use Rattle.resolve.specs.Scopes.{context, signature, Settled, Steady}
 use Rattle.resolve.specs.Asks.{declared, AsksMore}
@@ -7,9 +6,9 @@ use Rattle.resolve.proofs.Iff.{on_ok}
 use Rattle.resolve.proofs.ScopesLaws.{steady_more}
 use Rattle.resolve.proofs.ValuesLaws.{head_rest}
 use Rattle.trees.specs.declared.tree.Name.{Name}
-use Rattle.resolve.specs.Faults.{Faulty, FaultyText, with_parameters}
+use Rattle.resolve.specs.Faults.{Faulty, FaultyText}
 use Rattle.resolve.specs.declared.fault.Class.TheVariants.{Formula}
-use Rattle.resolve.proofs.TextFaultsLaws.{text_tail, text_passed, text_here, InNames, names_more, names_here, is_known}
+use Rattle.resolve.proofs.TextFaultsLaws.{text_tail, text_passed, InNames, names_more}
 use Rattle.resolve.proofs.AsksLaws.{assumed_more, claimed_more, name_more, rest_same}
 use Rattle.resolve.proofs.terms.Resolver.+asking.Goals as goal
 
@@ -63,42 +62,42 @@ names-returns-clause-says t c =
     ∙ ap (λ k. text_from items (count k ys) f (declare sort ys k f (bind x (given sort n f) (context c.args.scope.now f)))) e) m)) c.names.ensures.says)
 
 pub items-returns-in-Free-clause-faults : goal.items-returns-in-Free-clause-faults
-items-returns-in-Free-clause-faults t c = 
+items-returns-in-Free-clause-faults t c =
     let xs = c.args.items.now in
     let rest = take (length xs - 1) (drop 1 xs) in
     let parts = head_rest xs c.first-item.result (omega (arith, c.in-len1-up.len_at_least)) c.first-item.is ∙ ap (λ z. z ∷ rest) c.in-Free.is in
     text_tail c.names.result (signature c.args.scope.now) xs rest _ (λ f. InNames (signature c.args.scope.now) c.in-Free.sort c.deref.result.now rest f) parts (λ g h. subst (λ (l : List Name). InNames (signature c.args.scope.now) c.in-Free.sort l rest g) c.deref.ensures.value h) c.names.ensures.faults
 
 pub items-returns-in_err-formula-in-Assert-clause-faults : goal.items-returns-in_err-formula-in-Assert-clause-faults
-items-returns-in_err-formula-in-Assert-clause-faults t c = 
+items-returns-in_err-formula-in-Assert-clause-faults t c =
     let xs = c.args.items.now in
     let rest = take (length xs - 1) (drop 1 xs) in
     let parts = head_rest xs c.first-item.result (omega (arith, c.in-len1-up.len_at_least)) c.first-item.is ∙ ap (λ z. z ∷ rest) c.in-Assert.is in
     text_passed c.from_residual-in_err-formula-in-Assert.result (signature c.args.scope.now) xs rest _ (λ f. Faulty (signature c.args.scope.now) Formula c.in-Assert.expr f) _ c.from_residual-in_err-formula-in-Assert.ensures.1 parts (λ q. inl q) c.in_err-formula-in-Assert.ensures.faults
 
 pub items-returns-in_ok-push-in-Assert-clause-faults : goal.items-returns-in_ok-push-in-Assert-clause-faults
-items-returns-in_ok-push-in-Assert-clause-faults t c = 
+items-returns-in_ok-push-in-Assert-clause-faults t c =
     let xs = c.args.items.now in
     let rest = take (length xs - 1) (drop 1 xs) in
     let parts = head_rest xs c.first-item.result (omega (arith, c.in-len1-up.len_at_least)) c.first-item.is ∙ ap (λ z. z ∷ rest) c.in-Assert.is in
     text_tail c.items-in-Assert.result (signature c.args.scope.now) xs rest _ (λ f. FaultyText rest (signature c.args.scope.now) f) parts (λ g q. inr q) c.items-in-Assert.ensures.faults
 
 pub items-returns-in_err-formula-in-Formula-clause-faults : goal.items-returns-in_err-formula-in-Formula-clause-faults
-items-returns-in_err-formula-in-Formula-clause-faults t c = 
+items-returns-in_err-formula-in-Formula-clause-faults t c =
     let xs = c.args.items.now in
     let rest = take (length xs - 1) (drop 1 xs) in
     let parts = head_rest xs c.first-item.result (omega (arith, c.in-len1-up.len_at_least)) c.first-item.is ∙ ap (λ z. z ∷ rest) c.in-Formula.is in
     text_passed c.from_residual-in_err-formula-in-Formula.result (signature c.args.scope.now) xs rest _ (λ f. Faulty (signature c.args.scope.now) Formula c.in-Formula.expr f) _ c.from_residual-in_err-formula-in-Formula.ensures.1 parts (λ q. inl q) c.in_err-formula-in-Formula.ensures.faults
 
 pub items-returns-in_ok-push-in-Formula-clause-faults : goal.items-returns-in_ok-push-in-Formula-clause-faults
-items-returns-in_ok-push-in-Formula-clause-faults t c = 
+items-returns-in_ok-push-in-Formula-clause-faults t c =
     let xs = c.args.items.now in
     let rest = take (length xs - 1) (drop 1 xs) in
     let parts = head_rest xs c.first-item.result (omega (arith, c.in-len1-up.len_at_least)) c.first-item.is ∙ ap (λ z. z ∷ rest) c.in-Formula.is in
     text_tail c.items-in-Formula.result (signature c.args.scope.now) xs rest _ (λ f. FaultyText rest (signature c.args.scope.now) f) parts (λ g q. inr q) c.items-in-Formula.ensures.faults
 
 pub names-returns-clause-faults : goal.names-returns-clause-faults
-names-returns-clause-faults t c = 
+names-returns-clause-faults t c =
     let xs = c.args.names.now in
     let ys = take (length xs - 1) (drop 1 xs) in
     let parts = head_rest xs c.name-item.result (omega (arith, c.in-len1-up.len_at_least)) c.name-item.is in

@@ -1,8 +1,6 @@
-use Rattle.std.proofs.Common.{◌≡◌, suc, ◌-◌, length, take, drop, sym, subst, arith, rules, add-one}
-use Rattle.resolve.specs.Scopes.{signature, Settled, Steady}
+use Rattle.std.proofs.Common.{◌≡◌, suc, sym, subst, arith, rules, add-one}
+use Rattle.resolve.specs.Scopes.{Settled, Steady}
 use Rattle.resolve.proofs.ScopesLaws.{steady_more}
-use Rattle.resolve.proofs.ValuesLaws.{head_rest}
-use Rattle.resolve.proofs.TextFaultsLaws.{check_more}
 use Rattle.resolve.proofs.terms.Resolver.+checking.Goals as goal
 
 pub check-requires : goal.check-requires

@@ -1,15 +1,14 @@
-use Rattle.std.proofs.Common.{◌≡◌, ◌⊎◌, IfErr, inl, inr, refl, string_bytes, ◌+◌, ◌-◌, ◌<◌, ◌≤◌, ℕ, suc, ◌∷◌, map, length, take, drop, ◌∙◌, sym, ap, arith, rules, subst, ◌↔◌, add-one}
+use Rattle.std.proofs.Common.{◌≡◌, inl, inr, refl, ◌-◌, suc, ◌∷◌, map, length, take, drop, ◌∙◌, sym, ap, arith, rules, subst, ◌↔◌, add-one}
 use Rattle.formulas.specs.Meaning.{Env, Meaning}
-use Rattle.resolve.specs.Says.{Context, Value, value, holds, quantified, bind, bind_all, given}
-use Rattle.resolve.specs.Scopes.{meant, context, signature, Settled, Steady, OverAll}
+use Rattle.resolve.specs.Says.{Context, Value, value, holds, quantified, bind, bind_all}
+use Rattle.resolve.specs.Scopes.{context, signature, Settled, Steady, OverAll}
 use Rattle.resolve.proofs.Iff.{iff_trans, iff_sym, if_ok}
 use Rattle.resolve.proofs.ScopesLaws.{settled, steady_more, along, quantified_says}
-use Rattle.resolve.proofs.ValuesLaws.{head_rest, bind_none, bind_no_value}
+use Rattle.resolve.proofs.ValuesLaws.{head_rest}
 use Rattle.resolve.proofs.RowsLaws.{call_says}
 use Rattle.trees.specs.declared.tree.Expr.{Expr}
-use Rattle.resolve.specs.Faults.{Among, operands, Connects}
 use Rattle.resolve.specs.declared.fault.Class.TheVariants.{Formula}
-use Rattle.resolve.proofs.FaultsLaws.{one_passed, two_tail, two_passed, bound_more, bound_tail, call_argument, call_more, call_short, call_unknown, call_count, call_tail, none_known}
+use Rattle.resolve.proofs.FaultsLaws.{one_passed, two_tail, two_passed, bound_more, bound_tail, call_argument, call_more, call_unknown, call_count, call_tail, none_known}
 use Rattle.resolve.proofs.terms.Resolver.+statements.Goals as goal
 
 pub bound-bound-requires : goal.bound-bound-requires
@@ -76,44 +75,44 @@ formula-returns-else-wanted-len-clause-says t c =
     (iff_trans (h e) (iff_trans (along (λ z. holds known.predicate.now.body z) _ _ same) (iff_sym said)))) c.expanded.ensures.says
 
 pub formula-returns-in_err-a-in-Not-clause-faults : goal.formula-returns-in_err-a-in-Not-clause-faults
-formula-returns-in_err-a-in-Not-clause-faults t c = 
+formula-returns-in_err-a-in-Not-clause-faults t c =
     let d1 : c.deref.result.now ≡ c.in-Unary.a.value = c.deref.ensures in
     one_passed c.from_residual-in_err-a-in-Not.result (signature c.args.scope.now) c.args.expr.now Formula c.deref.result.now _ c.from_residual-in_err-a-in-Not.ensures.1 c.in_err-a-in-Not.ensures.faults (rw (c.in-Unary.is, c.in-Not.is, d1) (inl refl))
 
 pub formula-returns-in_err-a-in-And-clause-faults : goal.formula-returns-in_err-a-in-And-clause-faults
-formula-returns-in_err-a-in-And-clause-faults t c = 
+formula-returns-in_err-a-in-And-clause-faults t c =
     let d1 : c.deref-in-And.result.now ≡ c.in-Binary.a.value = c.deref-in-And.ensures in
     one_passed c.from_residual-in_err-a-in-And.result (signature c.args.scope.now) c.args.expr.now Formula c.deref-in-And.result.now _ c.from_residual-in_err-a-in-And.ensures.1 c.in_err-a-in-And.ensures.faults (rw (c.in-Binary.is, c.in-And.is, d1) (inl refl))
 
 pub formula-returns-in_err-b-in-And-clause-faults : goal.formula-returns-in_err-b-in-And-clause-faults
-formula-returns-in_err-b-in-And-clause-faults t c = 
+formula-returns-in_err-b-in-And-clause-faults t c =
     let d2 : c.deref-in-And-2.result.now ≡ c.in-Binary.b.value = c.deref-in-And-2.ensures in
     one_passed c.from_residual-in_err-b-in-And.result (signature c.args.scope.now) c.args.expr.now Formula c.deref-in-And-2.result.now _ c.from_residual-in_err-b-in-And.ensures.1 c.in_err-b-in-And.ensures.faults (rw (c.in-Binary.is, c.in-And.is, d2) (inr (inl refl)))
 
 pub formula-returns-in_err-a-in-Or-clause-faults : goal.formula-returns-in_err-a-in-Or-clause-faults
-formula-returns-in_err-a-in-Or-clause-faults t c = 
+formula-returns-in_err-a-in-Or-clause-faults t c =
     let d1 : c.deref-in-Or.result.now ≡ c.in-Binary.a.value = c.deref-in-Or.ensures in
     one_passed c.from_residual-in_err-a-in-Or.result (signature c.args.scope.now) c.args.expr.now Formula c.deref-in-Or.result.now _ c.from_residual-in_err-a-in-Or.ensures.1 c.in_err-a-in-Or.ensures.faults (rw (c.in-Binary.is, c.in-Or.is, d1) (inl refl))
 
 pub formula-returns-in_err-b-in-Or-clause-faults : goal.formula-returns-in_err-b-in-Or-clause-faults
-formula-returns-in_err-b-in-Or-clause-faults t c = 
+formula-returns-in_err-b-in-Or-clause-faults t c =
     let d2 : c.deref-in-Or-2.result.now ≡ c.in-Binary.b.value = c.deref-in-Or-2.ensures in
     one_passed c.from_residual-in_err-b-in-Or.result (signature c.args.scope.now) c.args.expr.now Formula c.deref-in-Or-2.result.now _ c.from_residual-in_err-b-in-Or.ensures.1 c.in_err-b-in-Or.ensures.faults (rw (c.in-Binary.is, c.in-Or.is, d2) (inr (inl refl)))
 
 pub formula-returns-in-Implies-clause-faults : goal.formula-returns-in-Implies-clause-faults
-formula-returns-in-Implies-clause-faults t c = 
+formula-returns-in-Implies-clause-faults t c =
     let d1 : c.deref-in-Implies.result.now ≡ c.in-Binary.a.value = c.deref-in-Implies.ensures in
     let d2 : c.deref-in-Implies-2.result.now ≡ c.in-Binary.b.value = c.deref-in-Implies-2.ensures in
     two_tail c.implication.result (signature c.args.scope.now) c.args.expr.now Formula Formula c.deref-in-Implies.result.now c.deref-in-Implies-2.result.now c.implication.ensures.faults (rw (c.in-Binary.is, c.in-Implies.is, d1) (inl refl)) (rw (c.in-Binary.is, c.in-Implies.is, d2) (inr (inl refl)))
 
 pub formula-returns-in_err-first-in-Iff-clause-faults : goal.formula-returns-in_err-first-in-Iff-clause-faults
-formula-returns-in_err-first-in-Iff-clause-faults t c = 
+formula-returns-in_err-first-in-Iff-clause-faults t c =
     let d1 : c.deref-in-Iff.result.now ≡ c.in-Binary.a.value = c.deref-in-Iff.ensures in
     let d2 : c.deref-in-Iff-2.result.now ≡ c.in-Binary.b.value = c.deref-in-Iff-2.ensures in
     two_passed c.from_residual-in_err-first-in-Iff.result (signature c.args.scope.now) c.args.expr.now Formula Formula c.deref-in-Iff.result.now c.deref-in-Iff-2.result.now _ c.from_residual-in_err-first-in-Iff.ensures.1 c.in_err-first-in-Iff.ensures.faults (rw (c.in-Binary.is, c.in-Iff.is, d1) (inl refl)) (rw (c.in-Binary.is, c.in-Iff.is, d2) (inr (inl refl)))
 
 pub formula-returns-in_err-second-in-Iff-clause-faults : goal.formula-returns-in_err-second-in-Iff-clause-faults
-formula-returns-in_err-second-in-Iff-clause-faults t c = 
+formula-returns-in_err-second-in-Iff-clause-faults t c =
     let d1 : c.deref-in-Iff-3.result.now ≡ c.in-Binary.b.value = c.deref-in-Iff-3.ensures in
     let d2 : c.deref-in-Iff-4.result.now ≡ c.in-Binary.a.value = c.deref-in-Iff-4.ensures in
     two_passed c.from_residual-in_err-second-in-Iff.result (signature c.args.scope.now) c.args.expr.now Formula Formula c.deref-in-Iff-3.result.now c.deref-in-Iff-4.result.now _ c.from_residual-in_err-second-in-Iff.ensures.1 c.in_err-second-in-Iff.ensures.faults (rw (c.in-Binary.is, c.in-Iff.is, d1) (inr (inl refl))) (rw (c.in-Binary.is, c.in-Iff.is, d2) (inl refl))
@@ -122,14 +121,14 @@ pub formula-returns-in-Bound-clause-faults : goal.formula-returns-in-Bound-claus
 formula-returns-in-Bound-clause-faults t c = let at = c.in-Bound in bound_tail c.bound.result (signature c.args.scope.now) c.args.expr.now at.quantifier at.sort at.names at.body at.field-4 c.deref-in-Bound.result.now c.deref-in-Bound-2.result.now at.is c.deref-in-Bound.ensures.value c.deref-in-Bound-2.ensures c.bound.ensures.faults
 
 pub formula-returns-else-wanted-len-clause-faults : goal.formula-returns-else-wanted-len-clause-faults
-formula-returns-else-wanted-len-clause-faults t c = 
+formula-returns-else-wanted-len-clause-faults t c =
     let at = c.in-Call in
     let known = c.in-Some.known in
     let same : length c.deref-in-Call.result.now ≡ length c.deref-in-Call-2.result.now = search rules in
     call_tail (signature c.args.scope.now) c.args.expr.now at.name at.arguments at.span c.expanded.result known.predicate.now (signature known.scope.now) c.deref-in-Call.result.now c.deref-in-Call-2.result.now known.predicate.now.body at.is c.in-Some.ensures.known c.deref-in-Call.ensures.value c.deref-in-Call-2.ensures.value refl same c.expanded.ensures.faults
 
 pub formula-returns-then-wanted-len-clause-faults : goal.formula-returns-then-wanted-len-clause-faults
-formula-returns-then-wanted-len-clause-faults t c = 
+formula-returns-then-wanted-len-clause-faults t c =
     let at = c.in-Call in
     let known = c.in-Some.known in
     let wanted : c.len-wanted.result ≡ length known.predicate.now.parameters.items = search rules in
@@ -138,19 +137,19 @@ formula-returns-then-wanted-len-clause-faults t c =
     inr (call_count (signature c.args.scope.now) c.args.expr.now at.name at.arguments at.span known.predicate.now (signature known.scope.now) c.len-wanted.result c.len-then-wanted-len.result at.is c.in-Some.ensures.known wanted given (λ q. c.if-wanted-len.true (q ∙ given ∙ sym compared)))
 
 pub formula-returns-in_default-defined-clause-faults : goal.formula-returns-in_default-defined-clause-faults
-formula-returns-in_default-defined-clause-faults t c = 
+formula-returns-in_default-defined-clause-faults t c =
     let at = c.in-Call in
     inr (call_unknown (signature c.args.scope.now) c.args.expr.now at.name at.arguments at.span at.is (none_known c.defined.result _ (λ k. (k.predicate.now, signature k.scope.now)) c.in_default-defined.not-Some c.defined.ensures.known))
 
 pub bound-returns-in_err-formula-clause-faults : goal.bound-returns-in_err-formula-clause-faults
-bound-returns-in_err-formula-clause-faults t c = 
+bound-returns-in_err-formula-clause-faults t c =
     let xs = c.args.names.now in
     let rest = take (length xs - 1) (drop 1 xs) in
     let parts = head_rest xs c.first-item.result (omega (arith, c.in-len1-up.len_at_least)) c.first-item.is in
     bound_more c.from_residual-in_err-formula.result (signature c.args.scope.now) c.args.sort _ c.first-item.result xs rest c.args.body.now _ c.from_residual-in_err-formula.ensures.1 parts c.numbered-term.ensures.sorts c.in_err-formula.ensures.faults
 
 pub expanded-returns-in_err-term-clause-faults : goal.expanded-returns-in_err-term-clause-faults
-expanded-returns-in_err-term-clause-faults t c = 
+expanded-returns-in_err-term-clause-faults t c =
     let ps = c.args.parameters.now in
     let xs = c.args.arguments.now in
     let qs = take (length ps - 1) (drop 1 ps) in
@@ -160,7 +159,7 @@ expanded-returns-in_err-term-clause-faults t c =
     call_argument c.from_residual-in_err-term.result (signature c.args.around.now) (signature c.args.scope.now) ps qs xs ys c.args.body.now c.parameter-item.result c.argument-item.result _ c.from_residual-in_err-term.ensures.1 one two c.in_err-term.ensures.faults
 
 pub expanded-returns-clause-faults : goal.expanded-returns-clause-faults
-expanded-returns-clause-faults t c = 
+expanded-returns-clause-faults t c =
     let ps = c.args.parameters.now in
     let xs = c.args.arguments.now in
     let qs = take (length ps - 1) (drop 1 ps) in

@@ -1,10 +1,10 @@
-use Rattle.std.proofs.Common.{◌≡◌, ◌≤◌, ◌∷◌, [], Some, inl, inr, refl, map, length, take, drop, ◌-◌, ◌∙◌, sym, ap, arith, subst, rules}
+use Rattle.std.proofs.Common.{◌≡◌, ◌∷◌, Some, inl, inr, refl, map, length, take, drop, ◌-◌, ◌∙◌, sym, ap, arith, rules}
 use Rattle.claims.specs.Places.{one}
-use Rattle.resolve.specs.Says.{value, place, set, each_place, place_of}
+use Rattle.resolve.specs.Says.{value, set, each_place, place_of}
 use Rattle.resolve.specs.Scopes.{context, term_sort, signature}
 use Rattle.resolve.proofs.ValuesLaws.{head_rest, mix_none, none_left}
 use Rattle.resolve.proofs.RowsLaws.{listed_says}
-use Rattle.resolve.specs.Faults.{Among, operands, NeedsNumber, class_of, class_of_sort}
+use Rattle.resolve.specs.Faults.{class_of, class_of_sort}
 use Rattle.resolve.specs.declared.fault.Class.TheVariants.{Formula, Place, Set}
 use Rattle.resolve.proofs.FaultsLaws.{term_deeper, term_number, term_listed, term_named, no_term_passed, formula_not_place, formula_not_set, misfit, unfit, place_not_set, set_not_place, unary_class, binary_class}
 use Rattle.resolve.proofs.terms.Resolver.+terms.Goals as goal
@@ -36,62 +36,62 @@ pub term-returns-in_err-listed-in-Listed-clause-faults : goal.term-returns-in_er
 term-returns-in_err-listed-in-Listed-clause-faults t c = term_listed c.from_residual-in_err-listed-in-Listed.result (signature c.args.scope.now) c.args.wanted c.args.expr.now c.in-Listed.all c.in-Listed.field-1 c.deref.result.now _ c.from_residual-in_err-listed-in-Listed.ensures.1 c.in-Listed.is c.deref.ensures.value c.in_err-listed-in-Listed.ensures.faults
 
 pub term-returns-in_err-a-in-Min-clause-faults : goal.term-returns-in_err-a-in-Min-clause-faults
-term-returns-in_err-a-in-Min-clause-faults t c = 
+term-returns-in_err-a-in-Min-clause-faults t c =
     let d : c.deref-in-Min.result.now ≡ c.in-Unary.a.value = c.deref-in-Min.ensures in
     term_deeper c.from_residual-in_err-a-in-Min.result (signature c.args.scope.now) c.args.wanted c.args.expr.now Set c.deref-in-Min.result.now _ c.from_residual-in_err-a-in-Min.ensures.1 c.in_err-a-in-Min.ensures.faults (rw (c.in-Unary.is, c.in-Min.is, d) (inl refl))
 
 pub term-returns-in_err-a-in-Max-clause-faults : goal.term-returns-in_err-a-in-Max-clause-faults
-term-returns-in_err-a-in-Max-clause-faults t c = 
+term-returns-in_err-a-in-Max-clause-faults t c =
     let d : c.deref-in-Max.result.now ≡ c.in-Unary.a.value = c.deref-in-Max.ensures in
     term_deeper c.from_residual-in_err-a-in-Max.result (signature c.args.scope.now) c.args.wanted c.args.expr.now Set c.deref-in-Max.result.now _ c.from_residual-in_err-a-in-Max.ensures.1 c.in_err-a-in-Max.ensures.faults (rw (c.in-Unary.is, c.in-Max.is, d) (inl refl))
 
 pub term-returns-in_err-a-in-Plus-clause-faults : goal.term-returns-in_err-a-in-Plus-clause-faults
-term-returns-in_err-a-in-Plus-clause-faults t c = 
+term-returns-in_err-a-in-Plus-clause-faults t c =
     let d : c.deref-in-Plus.result.now ≡ c.in-Binary.a.value = c.deref-in-Plus.ensures in
     term_deeper c.from_residual-in_err-a-in-Plus.result (signature c.args.scope.now) c.args.wanted c.args.expr.now Place c.deref-in-Plus.result.now _ c.from_residual-in_err-a-in-Plus.ensures.1 c.in_err-a-in-Plus.ensures.faults (rw (c.in-Binary.is, c.in-Plus.is, d) (inl refl))
 
 pub term-returns-in_err-a-in-Minus-clause-faults : goal.term-returns-in_err-a-in-Minus-clause-faults
-term-returns-in_err-a-in-Minus-clause-faults t c = 
+term-returns-in_err-a-in-Minus-clause-faults t c =
     let d : c.deref-in-Minus.result.now ≡ c.in-Binary.a.value = c.deref-in-Minus.ensures in
     term_deeper c.from_residual-in_err-a-in-Minus.result (signature c.args.scope.now) c.args.wanted c.args.expr.now Place c.deref-in-Minus.result.now _ c.from_residual-in_err-a-in-Minus.ensures.1 c.in_err-a-in-Minus.ensures.faults (rw (c.in-Binary.is, c.in-Minus.is, d) (inl refl))
 
 pub term-returns-in_err-a-in-Union-clause-faults : goal.term-returns-in_err-a-in-Union-clause-faults
-term-returns-in_err-a-in-Union-clause-faults t c = 
+term-returns-in_err-a-in-Union-clause-faults t c =
     let d : c.deref-in-Union.result.now ≡ c.in-Binary.a.value = c.deref-in-Union.ensures in
     term_deeper c.from_residual-in_err-a-in-Union.result (signature c.args.scope.now) c.args.wanted c.args.expr.now Set c.deref-in-Union.result.now _ c.from_residual-in_err-a-in-Union.ensures.1 c.in_err-a-in-Union.ensures.faults (rw (c.in-Binary.is, c.in-Union.is, d) (inl refl))
 
 pub term-returns-in_err-b-in-Union-clause-faults : goal.term-returns-in_err-b-in-Union-clause-faults
-term-returns-in_err-b-in-Union-clause-faults t c = 
+term-returns-in_err-b-in-Union-clause-faults t c =
     let d : c.deref-in-Union-2.result.now ≡ c.in-Binary.b.value = c.deref-in-Union-2.ensures in
     term_deeper c.from_residual-in_err-b-in-Union.result (signature c.args.scope.now) c.args.wanted c.args.expr.now Set c.deref-in-Union-2.result.now _ c.from_residual-in_err-b-in-Union.ensures.1 c.in_err-b-in-Union.ensures.faults (rw (c.in-Binary.is, c.in-Union.is, d) (inr (inl refl)))
 
 pub term-returns-in_err-a-in-Inter-clause-faults : goal.term-returns-in_err-a-in-Inter-clause-faults
-term-returns-in_err-a-in-Inter-clause-faults t c = 
+term-returns-in_err-a-in-Inter-clause-faults t c =
     let d : c.deref-in-Inter.result.now ≡ c.in-Binary.a.value = c.deref-in-Inter.ensures in
     term_deeper c.from_residual-in_err-a-in-Inter.result (signature c.args.scope.now) c.args.wanted c.args.expr.now Set c.deref-in-Inter.result.now _ c.from_residual-in_err-a-in-Inter.ensures.1 c.in_err-a-in-Inter.ensures.faults (rw (c.in-Binary.is, c.in-Inter.is, d) (inl refl))
 
 pub term-returns-in_err-b-in-Inter-clause-faults : goal.term-returns-in_err-b-in-Inter-clause-faults
-term-returns-in_err-b-in-Inter-clause-faults t c = 
+term-returns-in_err-b-in-Inter-clause-faults t c =
     let d : c.deref-in-Inter-2.result.now ≡ c.in-Binary.b.value = c.deref-in-Inter-2.ensures in
     term_deeper c.from_residual-in_err-b-in-Inter.result (signature c.args.scope.now) c.args.wanted c.args.expr.now Set c.deref-in-Inter-2.result.now _ c.from_residual-in_err-b-in-Inter.ensures.1 c.in_err-b-in-Inter.ensures.faults (rw (c.in-Binary.is, c.in-Inter.is, d) (inr (inl refl)))
 
 pub term-returns-in_err-a-in-Without-clause-faults : goal.term-returns-in_err-a-in-Without-clause-faults
-term-returns-in_err-a-in-Without-clause-faults t c = 
+term-returns-in_err-a-in-Without-clause-faults t c =
     let d : c.deref-in-Without.result.now ≡ c.in-Binary.a.value = c.deref-in-Without.ensures in
     term_deeper c.from_residual-in_err-a-in-Without.result (signature c.args.scope.now) c.args.wanted c.args.expr.now Set c.deref-in-Without.result.now _ c.from_residual-in_err-a-in-Without.ensures.1 c.in_err-a-in-Without.ensures.faults (rw (c.in-Binary.is, c.in-Without.is, d) (inl refl))
 
 pub term-returns-in_err-b-in-Without-clause-faults : goal.term-returns-in_err-b-in-Without-clause-faults
-term-returns-in_err-b-in-Without-clause-faults t c = 
+term-returns-in_err-b-in-Without-clause-faults t c =
     let d : c.deref-in-Without-2.result.now ≡ c.in-Binary.b.value = c.deref-in-Without-2.ensures in
     term_deeper c.from_residual-in_err-b-in-Without.result (signature c.args.scope.now) c.args.wanted c.args.expr.now Set c.deref-in-Without-2.result.now _ c.from_residual-in_err-b-in-Without.ensures.1 c.in_err-b-in-Without.ensures.faults (rw (c.in-Binary.is, c.in-Without.is, d) (inr (inl refl)))
 
 pub term-returns-in_err-number-in-Plus-clause-faults : goal.term-returns-in_err-number-in-Plus-clause-faults
-term-returns-in_err-number-in-Plus-clause-faults t c = 
+term-returns-in_err-number-in-Plus-clause-faults t c =
     let d : c.deref-in-Plus-2.result.now ≡ c.in-Binary.b.value = c.deref-in-Plus-2.ensures in
     term_number c.from_residual-in_err-number-in-Plus.result (signature c.args.scope.now) c.args.wanted c.args.expr.now c.deref-in-Plus-2.result.now _ c.from_residual-in_err-number-in-Plus.ensures.1 c.in_err-number-in-Plus.ensures.faults (rw (c.in-Binary.is, c.in-Plus.is) (sym d))
 
 pub term-returns-in_err-number-in-Minus-clause-faults : goal.term-returns-in_err-number-in-Minus-clause-faults
-term-returns-in_err-number-in-Minus-clause-faults t c = 
+term-returns-in_err-number-in-Minus-clause-faults t c =
     let d : c.deref-in-Minus-2.result.now ≡ c.in-Binary.b.value = c.deref-in-Minus-2.ensures in
     term_number c.from_residual-in_err-number-in-Minus.result (signature c.args.scope.now) c.args.wanted c.args.expr.now c.deref-in-Minus-2.result.now _ c.from_residual-in_err-number-in-Minus.ensures.1 c.in_err-number-in-Minus.ensures.faults (rw (c.in-Binary.is, c.in-Minus.is) (sym d))
 
@@ -108,10 +108,12 @@ pub term-returns-in-True-clause-faults : goal.term-returns-in-True-clause-faults
 term-returns-in-True-clause-faults t c =
     let k = signature c.args.scope.now in
     let formula : class_of k c.args.expr.now ≡ Some Formula = elim c.in-True.is [
-      inl x ↦ ap (λ y. class_of k y) x.1
-    | inr x ↦ elim x [
-        inl y ↦ ap (λ z. class_of k z) y.1
-      | inr y ↦ elim y [ inl z ↦ ap (λ v. class_of k v) z.5 | inr z ↦ ap (λ v. class_of k v) z.3 ] ] ] in
+      | inl x ↦ ap (λ y. class_of k y) x.1
+      | inr x ↦ elim x [
+        | inl y ↦ ap (λ z. class_of k z) y.1
+        | inr y ↦ elim y [ inl z ↦ ap (λ v. class_of k v) z.5 | inr z ↦ ap (λ v. class_of k v) z.3 ]
+      ]
+    ] in
     misfit c.span-in-True.result formula c.span-in-True.ensures
 
 pub group-returns-in_err-group-clause-faults : goal.group-returns-in_err-group-clause-faults

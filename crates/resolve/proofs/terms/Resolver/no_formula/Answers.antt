@@ -1,8 +1,6 @@
-use Rattle.std.proofs.Common.{◌≡◌, ◌∙◌, Some, inl, inr, refl, sym, ap, subst, IfErr}
-use Rattle.trees.specs.declared.tree.Expr.{Expr}
-use Rattle.resolve.specs.Scopes.{signature, term_sort}
-use Rattle.resolve.specs.Faults.{Among, operands, class_of, class_of_sort, side, Connects}
-use Rattle.resolve.specs.declared.fault.Class.TheVariants.{Formula, Place, Set}
+use Rattle.std.proofs.Common.{◌∙◌, Some, inr, ap}
+use Rattle.resolve.specs.Scopes.{term_sort}
+use Rattle.resolve.specs.Faults.{class_of_sort}
 use Rattle.resolve.proofs.FaultsLaws.{unfit, place_not_formula, set_not_formula}
 use Rattle.resolve.proofs.terms.Resolver.no_formula.Goals as goal
 
