@@ -1,5 +1,5 @@
 -- What is asked, item by item.
-use Rattle.std.proofs.Common.{◌≡◌, ℕ, ◌↔◌, List, [], ◌∷◌, ◌++◌, map, sym, subst, refl, ap, ◌∙◌, append_assoc}
+use Rattle.std.proofs.Common.{◌≡◌, ◌↔◌, List, [], ◌∷◌, ◌++◌, sym, subst, ap, ◌∙◌, append_assoc}
 use Rattle.std.proofs.lemmas.List.{map-append, append-nil}
 use Rattle.formulas.specs.Meaning.{Env, Meaning}
 use Rattle.trees.specs.declared.tree.Name.{Name}
@@ -9,7 +9,6 @@ use Rattle.resolve.specs.declared.scope.Free.{Free}
 use Rattle.resolve.specs.declared.asked.Stated.{Stated}
 use Rattle.resolve.specs.declared.asked.Asked.{Asked}
 use Rattle.resolve.specs.Asks.{free, all_hold, AsksMore}
-use Rattle.resolve.proofs.Iff.{iff_trans, iff_and}
 
 pub all_hold_more : (l : List Stated) (s : Stated) (e : Env) → all_hold (l ++ (s ∷ [])) e ↔ (all_hold l e × Meaning s.formula e)
 all_hold_more [] s e = (λ h. (tt, h.0), λ h. (h.1, tt))

@@ -1,5 +1,5 @@
 -- What is said of a list of expressions is said of the values of each.
-use Rattle.std.proofs.Common.{◌≡◌, ◌∙◌, ap, ◌↔◌, List, map, refl, string_bytes, Vec, Global, sym}
+use Rattle.std.proofs.Common.{◌≡◌, ◌∙◌, ap, ◌↔◌, List, map, string_bytes, Vec, Global}
 use mathlib.Core.Former.{Count}
 use Rattle.trees.specs.declared.position.Span.{Span}
 use Rattle.trees.specs.declared.tree.Name.{Name}

@@ -1,11 +1,11 @@
 -- What is asked of a text: formulas over numbers, of which each is true exactly where what it was made of is.
-use Rattle.std.specs.Prelude.{◌≡◌, ℕ, ◌++◌, map, ◌↔◌, List, [], ◌∷◌}
+use Rattle.std.specs.Prelude.{◌≡◌, ◌++◌, map, ◌↔◌, List, [], ◌∷◌}
 use Rattle.formulas.specs.Meaning.{Env, Meaning}
 use Rattle.trees.specs.declared.tree.Name.{Name}
 use Rattle.trees.specs.declared.tree.Sort.{Sort}
 use Rattle.trees.specs.declared.tree.Item.{Item}
 use Rattle.trees.specs.declared.tree.Item.TheVariants.{Free, Predicate as defined, Assert, Formula}
-use Rattle.resolve.specs.Says.{Context, Text, text}
+use Rattle.resolve.specs.Says.{Text, text}
 use Rattle.resolve.specs.declared.scope.Free.{Free as Declared}
 use Rattle.resolve.specs.declared.asked.Stated.{Stated}
 use Rattle.resolve.specs.declared.asked.Asked.{Asked}

@@ -13,7 +13,7 @@ use Rattle.trees.specs.declared.tree.Quantifier.TheVariants.{Some, All}
 use Rattle.trees.specs.declared.tree.Unary.TheVariants.{Not, Min, Max, IsEmpty}
 use Rattle.trees.specs.declared.tree.Binary.TheVariants.{Iff, Implies, Or, And, In, NotIn, Sub, Equal, Differs, Less, AtMost, Greater, AtLeast, Union, Inter, Without, Plus, Minus}
 use Rattle.trees.specs.declared.tree.Expr.{Expr, Row_of-Expr, end_of-Expr, more_of-Expr}
-use Rattle.trees.specs.declared.tree.Expr.TheVariants.{True, False, Empty, Number, Named, Listed', Unary', Binary', Bound', Call'}
+use Rattle.trees.specs.declared.tree.Expr.TheVariants.{True, Empty, Number, Named, Listed', Unary', Binary', Bound', Call'}
 use Rattle.trees.specs.declared.tree.Parameter.{Parameter}
 use Rattle.trees.specs.declared.tree.Predicate.{Predicate}
 use Rattle.trees.specs.declared.tree.Item.{Item}

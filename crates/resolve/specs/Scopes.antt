@@ -1,5 +1,5 @@
 -- What is known where a part of a text is read, as the code holds it: names with the terms that they stand for, and predicates.
-use Rattle.std.specs.Prelude.{◌≡◌, ℕ, ◌<◌, Bool, List}
+use Rattle.std.specs.Prelude.{◌≡◌, ℕ, ◌<◌, Bool, List, string_bytes}
 use Rattle.formulas.specs.Meaning.{Env, value, members, with_place, with_group}
 use Rattle.resolve.specs.Says.{Value, place, set, Context, nothing, bind, define}
 use Rattle.resolve.specs.declared.scope.Term.{Term}
@@ -8,6 +8,7 @@ use Rattle.trees.specs.declared.tree.Sort.{Sort}
 use Rattle.trees.specs.declared.tree.Sort.TheVariants.{Place as OfPlace, Set as OfSet}
 use Rattle.trees.specs.declared.tree.Quantifier.{Quantifier}
 use Rattle.trees.specs.declared.tree.Quantifier.TheVariants.{Some, All}
+use Rattle.resolve.specs.Faults.{Signature, outermost, named, defined}
 use Rattle.resolve.specs.declared.scope.Scope.{Scope}
 use Rattle.resolve.specs.declared.scope.Scope.TheVariants.{Outermost, Named', Defined'}
 
@@ -20,6 +21,16 @@ abbrev pub context : Scope → Env → Context
 context Outermost e = nothing
 context (Named' x t _ outer) e = bind x.now (meant t.now e) (context outer e)
 context (Defined' p _ outer) e = define p.now (context outer e)
+
+abbrev pub term_sort : Term → Sort
+term_sort (Place t) = OfPlace
+term_sort (Set t) = OfSet
+
+-- the names in scope without what they stand for
+abbrev pub signature : Scope → Signature
+signature Outermost = outermost
+signature (Named' x t _ outer) = named (string_bytes x.now.text) (term_sort t.now) (signature outer)
+signature (Defined' p _ outer) = defined p.now (signature outer)
 
 -- the same places and sets for the names with numbers below n
 abbrev pub Agree : ℕ → Env → Env → Type 0

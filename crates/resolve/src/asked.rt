@@ -1,8 +1,10 @@
 // What a text asks: its declared names, what is assumed of them, and what is claimed.
-ghost use Rattle.std.specs.Prelude.{◌≡◌, ℕ, ◌++◌, ◌↔◌, map, IfOk, OnOk};
+ghost use Rattle.std.specs.Prelude.{◌≡◌, ℕ, ◌++◌, ◌↔◌, ◌⊎◌, map, IfOk, IfErr, OnOk};
 ghost use Rattle.formulas.specs.Meaning.{Env, Meaning};
 ghost use Rattle.resolve.specs.Says.{text_from, declare, count};
-ghost use Rattle.resolve.specs.Scopes.{context, Steady};
+ghost use Rattle.resolve.specs.Scopes.{context, signature, Steady};
+ghost use Rattle.resolve.specs.Faults.{Faulty, FaultyText, NamedAgain, IsLimit, outermost, with_names, with_parameters};
+ghost use Rattle.resolve.specs.declared.fault.Class.TheVariants.{Formula as OfFormula};
 ghost use Rattle.resolve.specs.Asks.{Asks, AsksMore, declared, all_hold};
 
 use crate::fault::Fault;
@@ -14,13 +16,14 @@ use std::alloc::Global;
 use trees::position::Span;
 use trees::tree::{Expr, Item, Name, Parameter, Sort};
 
-// A formula of the text, as it stands there and as a formula over numbers.
+/// A formula of the text, as it stands there and as a formula over numbers.
 #[derive(Drop)]
 pub struct Stated<'a> {
     pub expr: &'a Expr,
     pub formula: Formula,
 }
 
+/// The names that a text declares, what it assumes of them and what it claims.
 #[derive(Drop)]
 pub struct Asked<'a> {
     pub free: Vec<Free<'a>>,
@@ -52,6 +55,7 @@ impl Resolver {
         calls: u32,
     ) -> Result<(), Fault>
         requires { Steady level scope.now }
+        ensures { IfErr result (λ f. IsLimit f ⊎ Faulty (with_parameters parameters.now (signature scope.now)) OfFormula body.now f) }
     {
         let [parameter, others @ ..] = parameters else {
             let _ = self.formula(body, scope, level, calls)?;
@@ -78,7 +82,8 @@ impl Resolver {
     where
         'a: 's,
         requires { Steady level scope.now }
-        ensures { OnOk result (AsksMore asked.old asked.new (declared items.now) (λ e. text_from items.now level e (context scope.now e))) }
+        ensures says { OnOk result (AsksMore asked.old asked.new (declared items.now) (λ e. text_from items.now level e (context scope.now e))) }
+        ensures faults { IfErr result (λ f. IsLimit f ⊎ FaultyText items.now (signature scope.now) f) }
     {
         let [first, rest @ ..] = items else {
             return Ok(());
@@ -136,7 +141,8 @@ impl Resolver {
     where
         'a: 's,
         requires { Steady level scope.now }
-        ensures { OnOk result (AsksMore asked.old asked.new (map (λ x. (x, sort)) names.now ++ declared rest.now) (λ e. text_from rest.now (count level names.now) e (declare sort names.now level e (context scope.now e)))) }
+        ensures says { OnOk result (AsksMore asked.old asked.new (map (λ x. (x, sort)) names.now ++ declared rest.now) (λ e. text_from rest.now (count level names.now) e (declare sort names.now level e (context scope.now e)))) }
+        ensures faults { IfErr result (λ f. IsLimit f ⊎ (NamedAgain sort names.now (signature scope.now) f ⊎ FaultyText rest.now (with_names sort names.now (signature scope.now)) f)) }
     {
         let calls = inner(calls, span)?;
         let [name, others @ ..] = names else {
@@ -155,9 +161,13 @@ impl Resolver {
     }
 }
 
-// What a text asks, or the first fault in it.
+/// What a text asks.
+///
+/// # Errors
+/// A limit, or a fault that the text has: the first that is met.
 pub fn ask(heap: Global, items: &[Item]) -> Result<Asked<'_>, Fault>
-    ensures { IfOk result (λ asked. Asks items.now asked) }
+    ensures asks { IfOk result (λ asked. Asks items.now asked) }
+    ensures faults { IfErr result (λ f. IsLimit f ⊎ FaultyText items.now outermost f) }
 {
     let mut asked = Asked {
         free: Vec::new(heap),

@@ -1,10 +1,13 @@
 // Why a text that can be read says nothing: a name that is not declared, a set where a place must stand, and the like.
+ghost use Rattle.std.specs.Prelude.{◌≡◌};
+ghost use Rattle.resolve.specs.declared.fault.Fault.TheVariants.{Memory};
+
 use std::alloc::{AllocError, AllocFailed, Global};
 use std::str::from_utf8;
 use trees::position::Span;
 use trees::tree::Sort;
 
-// What an expression stands for.
+/// What an expression stands for.
 #[derive(Clone, Copy, Debug, PartialEq, Eq)]
 pub enum Class {
     Formula,
@@ -12,6 +15,7 @@ pub enum Class {
     Set,
 }
 
+/// What is wrong, and where it stands. `Deep`, `Large` and `Memory` are limits of the work and no faults of the text.
 #[derive(Clone, Copy, Debug, PartialEq, Eq)]
 pub enum Fault {
     // what was expected, what stands there
@@ -28,18 +32,23 @@ pub enum Fault {
 }
 
 impl From<AllocError> for Fault {
+    ghost from_gives = { λ _ e. e ≡ Memory };
+
     fn from(_error: AllocError) -> Fault {
         Fault::Memory
     }
 }
 
 impl<T: Drop> From<AllocFailed<T>> for Fault {
+    ghost from_gives = { λ _ e. e ≡ Memory };
+
     fn from(_error: AllocFailed<T>) -> Fault {
         Fault::Memory
     }
 }
 
 impl Class {
+    /// What a name of a sort stands for.
     pub fn of(sort: Sort) -> Class {
         match sort {
             Sort::Place => Class::Place,
@@ -57,7 +66,7 @@ impl Class {
 }
 
 impl Fault {
-    // Where it stands; without memory nothing in the text is at fault.
+    /// Where it stands; without memory nothing in the text is at fault.
     pub fn span(&self) -> Option<Span> {
         match self {
             Fault::Class(_, _, span)
@@ -72,7 +81,7 @@ impl Fault {
         }
     }
 
-    // What was expected and what stands there, in words.
+    /// What was expected and what stands there, in words. Fails for want of memory.
     pub fn message(&self, heap: Global, text: &[u8]) -> Result<String, AllocError> {
         let found = match self.span() {
             Some(span) => from_utf8(span.of(text)).unwrap_or(""),

@@ -3,19 +3,20 @@ ghost use Rattle.std.specs.Prelude.{◌≡◌, ℕ, List, string_bytes, IfSome, 
 ghost use Rattle.std.specs.Str.{bytes_eq};
 ghost use Rattle.formulas.specs.Meaning.{Env};
 ghost use Rattle.resolve.specs.Says.{Value, none, says_of};
-ghost use Rattle.resolve.specs.Scopes.{meant, context, Steady};
+ghost use Rattle.resolve.specs.Scopes.{meant, context, Steady, term_sort, signature};
+ghost use Rattle.resolve.specs.Faults.{sort_of, predicate_of};
 
 use formulas::formula::{Group, Place};
 use trees::tree::{Name, Predicate, Sort};
 
-// A place or a set, over names that are numbers.
+/// A place or a set, over names that are numbers.
 #[derive(Drop)]
 pub enum Term {
     Place(Place),
     Set(Group),
 }
 
-// The innermost name first.
+/// The names and predicates that are known at a part of a text, the innermost first.
 #[derive(Drop)]
 pub enum Scope<'s> {
     Outermost,
@@ -23,29 +24,31 @@ pub enum Scope<'s> {
     Defined(&'s Predicate, &'s Scope<'s>),
 }
 
-// A predicate, and the scope in which it is declared.
+/// A predicate, and the scope in which it is declared.
 #[derive(Clone, Copy)]
 pub struct Known<'s> {
     pub predicate: &'s Predicate,
     pub scope: &'s Scope<'s>,
 }
 
-// A name that the text declares; its number is its index.
+/// A name that the text declares; its number is its index.
 #[derive(Clone, Copy)]
 pub struct Free<'a> {
     pub name: &'a Name,
     pub sort: Sort,
 }
 
+/// Whether two names are spelled alike.
 pub fn is_same(a: &Name, b: &Name) -> bool
     ensures { result ≡ bytes_eq (string_bytes a.now.text) (string_bytes b.now.text) }
 {
     a.text.as_str() == b.text.as_str()
 }
 
-// The term that a name stands for.
+/// The term that a name stands for; nothing if the name is not known.
 pub fn named<'s>(scope: &'s Scope<'s>, name: &Name) -> Option<&'s Term>
-    ensures { MatchOption result ((e : Env) → (context scope.now e).value (string_bytes name.now.text) ≡ none) (λ t. (e : Env) → (context scope.now e).value (string_bytes name.now.text) ≡ meant t.now e) }
+    ensures means { MatchOption result ((e : Env) → (context scope.now e).value (string_bytes name.now.text) ≡ none) (λ t. (e : Env) → (context scope.now e).value (string_bytes name.now.text) ≡ meant t.now e) }
+    ensures sorts { MatchOption result (sort_of (signature scope.now) (string_bytes name.now.text) ≡ None) (λ t. sort_of (signature scope.now) (string_bytes name.now.text) ≡ Some (term_sort t.now)) }
 {
     match scope {
         Scope::Outermost => None,
@@ -59,10 +62,11 @@ pub fn named<'s>(scope: &'s Scope<'s>, name: &Name) -> Option<&'s Term>
     }
 }
 
-// The predicate of a name.
+/// The predicate of a name, with the scope in which it is declared; nothing if it is not known.
 pub fn defined<'s>(scope: &'s Scope<'s>, name: &Name) -> Option<Known<'s>>
     ensures says { MatchOption result ((e : Env) (vs : List Value) → (context scope.now e).says (string_bytes name.now.text) vs → ⊥) (λ k. (e : Env) (vs : List Value) → (context scope.now e).says (string_bytes name.now.text) vs ↔ says_of k.predicate.now (context k.scope.now e) vs) }
     ensures steady { IfSome result (λ k. (n : ℕ) → Steady n scope.now → Steady n k.scope.now) }
+    ensures known { MatchOption result (predicate_of (signature scope.now) (string_bytes name.now.text) ≡ None) (λ k. predicate_of (signature scope.now) (string_bytes name.now.text) ≡ Some (k.predicate.now, signature k.scope.now)) }
 {
     match scope {
         Scope::Outermost => None,

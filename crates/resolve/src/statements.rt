@@ -1,9 +1,12 @@
 // Expressions as formulas: connectives, comparisons, quantifiers, and predicates expanded. A bound name takes the number of names that are bound or declared around it, so that no argument of a predicate is captured.
-ghost use Rattle.std.specs.Prelude.{◌≡◌, ℕ, ◌+◌, ◌<◌, ◌≤◌, true, map, List, ◌⊎◌, ◌↔◌, IfOk};
+ghost use Rattle.std.specs.Prelude.{◌≡◌, ℕ, ◌+◌, ◌<◌, ◌≤◌, true, map, length, List, ◌⊎◌, ◌↔◌, IfOk, IfErr};
 ghost use Rattle.claims.specs.Claims.{has};
 ghost use Rattle.formulas.specs.Meaning.{Env, Meaning};
 ghost use Rattle.resolve.specs.Says.{Context, Value, value, place_of, set_of, Same, IsSet, holds, quantified, bind_all, given};
-ghost use Rattle.resolve.specs.Scopes.{meant, context, Settled, Steady, OverAll};
+ghost use Rattle.resolve.specs.Scopes.{meant, context, term_sort, signature, Settled, Steady, OverAll};
+ghost use Rattle.resolve.specs.Faults.{Faulty, IsLimit, Among, Connects, class_of, class_of_sort, side, with_names, with_parameters, as_parameters};
+ghost use Rattle.trees.specs.declared.tree.Expr.{Expr};
+ghost use Rattle.resolve.specs.declared.fault.Class.{Class};
 
 use crate::built::{and, every_place, every_set, implies, negation, or, some_place, some_set};
 use crate::fault::{Class, Fault};
@@ -13,10 +16,11 @@ use formulas::formula::{Formula, Group, Place};
 use std::alloc::{AllocError, Global};
 use trees::tree::{Binary, Expr, Name, Parameter, Quantifier, Sort, Unary};
 
-// The term of a name with a number.
+/// The term of a name with a number.
 pub fn numbered(sort: Sort, number: u32) -> Term
     ensures means { (e : Env) → meant result e ≡ given sort number e }
     ensures settled { Settled (number + 1) result }
+    ensures sorts { term_sort result ≡ sort }
 {
     match sort {
         Sort::Place => Term::Place(Place::Named(number)),
@@ -53,6 +57,7 @@ impl Resolver {
     ) -> Result<Formula, Fault>
         ensures says { IfOk result (λ f. (e : Env) → let s = context scope.now e in Meaning f e ↔ ((i : ℕ) → has (set_of (value a.now s)) i ≡ true → has (set_of (value b.now s)) i ≡ true)) }
         ensures sets { IfOk result (λ f. (e : Env) → IsSet (value a.now (context scope.now e)) × IsSet (value b.now (context scope.now e))) }
+        ensures faults { IfErr result (λ f. IsLimit f ⊎ (Faulty (signature scope.now) Class.Set a.now f ⊎ Faulty (signature scope.now) Class.Set b.now f)) }
     {
         let a = self.group(a, scope, calls)?;
         let b = self.group(b, scope, calls)?;
@@ -67,7 +72,8 @@ impl Resolver {
         scope: &Scope<'_>,
         calls: u32,
     ) -> Result<Formula, Fault>
-        ensures { IfOk result (λ f. (e : Env) → let s = context scope.now e in Meaning f e ↔ (place_of (value a.now s) < place_of (value b.now s))) }
+        ensures says { IfOk result (λ f. (e : Env) → let s = context scope.now e in Meaning f e ↔ (place_of (value a.now s) < place_of (value b.now s))) }
+        ensures faults { IfErr result (λ f. IsLimit f ⊎ (Faulty (signature scope.now) Class.Place a.now f ⊎ Faulty (signature scope.now) Class.Place b.now f)) }
     {
         let a = self.place(a, scope, calls)?;
         let b = self.place(b, scope, calls)?;
@@ -82,7 +88,8 @@ impl Resolver {
         scope: &Scope<'_>,
         calls: u32,
     ) -> Result<Formula, Fault>
-        ensures { IfOk result (λ f. (e : Env) → let s = context scope.now e in Meaning f e ↔ (has (set_of (value b.now s)) (place_of (value a.now s)) ≡ true)) }
+        ensures says { IfOk result (λ f. (e : Env) → let s = context scope.now e in Meaning f e ↔ (has (set_of (value b.now s)) (place_of (value a.now s)) ≡ true)) }
+        ensures faults { IfErr result (λ f. IsLimit f ⊎ (Faulty (signature scope.now) Class.Place a.now f ⊎ Faulty (signature scope.now) Class.Set b.now f)) }
     {
         let a = self.place(a, scope, calls)?;
         let b = self.group(b, scope, calls)?;
@@ -91,7 +98,8 @@ impl Resolver {
 
     // Two places that are the same, or two sets.
     fn equal(&mut self, a: &Expr, b: &Expr, scope: &Scope<'_>, calls: u32) -> Result<Formula, Fault>
-        ensures { IfOk result (λ f. (e : Env) → let s = context scope.now e in Meaning f e ↔ Same (value a.now s) (value b.now s)) }
+        ensures says { IfOk result (λ f. (e : Env) → let s = context scope.now e in Meaning f e ↔ Same (value a.now s) (value b.now s)) }
+        ensures faults { IfErr result (λ f. let sides = side (class_of (signature scope.now) a.now) in IsLimit f ⊎ (Faulty (signature scope.now) sides a.now f ⊎ Faulty (signature scope.now) sides b.now f)) }
     {
         match self.term(Class::Place, a, scope, calls)? {
             Term::Place(first) => {
@@ -108,50 +116,66 @@ impl Resolver {
 
     // A set without places.
     fn emptied(&mut self, a: &Expr, scope: &Scope<'_>, calls: u32) -> Result<Formula, Fault>
-        ensures { IfOk result (λ f. (e : Env) → Meaning f e ↔ ((i : ℕ) → has (set_of (value a.now (context scope.now e))) i ≡ true → ⊥)) }
+        ensures says { IfOk result (λ f. (e : Env) → Meaning f e ↔ ((i : ℕ) → has (set_of (value a.now (context scope.now e))) i ≡ true → ⊥)) }
+        ensures faults { IfErr result (λ f. IsLimit f ⊎ Faulty (signature scope.now) Class.Set a.now f) }
     {
         let set = self.group(a, scope, calls)?;
         Ok(Formula::Sub(set, Group::Empty))
     }
 
-    // What is said of terms.
-    fn compared(&mut self, expr: &Expr, scope: &Scope<'_>, calls: u32) -> Result<Formula, Fault>
-        ensures { IfOk result (λ f. (e : Env) → Meaning f e ↔ holds expr.now (context scope.now e)) }
+    // What is at fault where a formula is wanted and a term stands: the term, or else that it is one.
+    fn no_formula(&mut self, expr: &Expr, scope: &Scope<'_>, calls: u32) -> Fault
+        ensures { IsLimit result ⊎ ((class_of (signature scope.now) expr.now ≡ Some Class.Formula → ⊥) → Faulty (signature scope.now) Class.Formula expr.now result) }
     {
-        match expr {
-            Expr::Unary(Unary::IsEmpty, a, _) => self.emptied(a, scope, calls),
-            Expr::Binary(Binary::In, a, b, _) => self.belongs(a, b, scope, calls),
-            Expr::Binary(Binary::NotIn, a, b, _) => {
-                let formula = self.belongs(a, b, scope, calls)?;
-                Ok(negation(self.heap, formula)?)
-            }
-            Expr::Binary(Binary::Sub, a, b, _) => self.within(a, b, scope, calls),
-            Expr::Binary(Binary::Equal, a, b, _) => self.equal(a, b, scope, calls),
-            Expr::Binary(Binary::Differs, a, b, _) => {
-                let formula = self.equal(a, b, scope, calls)?;
-                Ok(negation(self.heap, formula)?)
-            }
-            Expr::Binary(Binary::Less, a, b, _) => self.before(a, b, scope, calls),
-            Expr::Binary(Binary::Greater, a, b, _) => self.before(b, a, scope, calls),
-            Expr::Binary(Binary::AtMost, a, b, _) => {
-                let formula = self.before(b, a, scope, calls)?;
-                Ok(negation(self.heap, formula)?)
-            }
-            Expr::Binary(Binary::AtLeast, a, b, _) => {
-                let formula = self.before(a, b, scope, calls)?;
-                Ok(negation(self.heap, formula)?)
-            }
-            _ => {
-                let class = match self.term(Class::Formula, expr, scope, calls)? {
-                    Term::Place(_) => Class::Place,
-                    Term::Set(_) => Class::Set,
-                };
-                Err(Fault::Class(Class::Formula, class, expr.span()))
-            }
+        match self.term(Class::Formula, expr, scope, calls) {
+            Ok(Term::Place(_)) => Fault::Class(Class::Formula, Class::Place, expr.span()),
+            Ok(Term::Set(_)) => Fault::Class(Class::Formula, Class::Set, expr.span()),
+            Err(fault) => fault,
         }
     }
 
-    // What an expression says.
+    // What is said of terms.
+    fn compared(&mut self, expr: &Expr, scope: &Scope<'_>, calls: u32) -> Result<Formula, Fault>
+        ensures says { IfOk result (λ f. (e : Env) → Meaning f e ↔ holds expr.now (context scope.now e)) }
+        ensures faults { IfErr result (λ f. IsLimit f ⊎ ((Connects expr.now → ⊥) → Faulty (signature scope.now) Class.Formula expr.now f)) }
+    {
+        match expr {
+            Expr::Unary(sign, a, _) => match sign {
+                Unary::IsEmpty => self.emptied(a, scope, calls),
+                _ => Err(self.no_formula(expr, scope, calls)),
+            },
+            Expr::Binary(sign, a, b, _) => match sign {
+                Binary::In => self.belongs(a, b, scope, calls),
+                Binary::NotIn => {
+                    let formula = self.belongs(a, b, scope, calls)?;
+                    Ok(negation(self.heap, formula)?)
+                }
+                Binary::Sub => self.within(a, b, scope, calls),
+                Binary::Equal => self.equal(a, b, scope, calls),
+                Binary::Differs => {
+                    let formula = self.equal(a, b, scope, calls)?;
+                    Ok(negation(self.heap, formula)?)
+                }
+                Binary::Less => self.before(a, b, scope, calls),
+                Binary::Greater => self.before(b, a, scope, calls),
+                Binary::AtMost => {
+                    let formula = self.before(b, a, scope, calls)?;
+                    Ok(negation(self.heap, formula)?)
+                }
+                Binary::AtLeast => {
+                    let formula = self.before(a, b, scope, calls)?;
+                    Ok(negation(self.heap, formula)?)
+                }
+                _ => Err(self.no_formula(expr, scope, calls)),
+            },
+            _ => Err(self.no_formula(expr, scope, calls)),
+        }
+    }
+
+    /// What an expression says, as a formula over numbers; names that are bound take the numbers from `level` on.
+    ///
+    /// # Errors
+    /// A limit, or a fault that the expression has where a formula is wanted.
     #[cycle(statements)]
     pub fn formula<'s>(
         &mut self,
@@ -161,35 +185,40 @@ impl Resolver {
         calls: u32,
     ) -> Result<Formula, Fault>
         requires { Steady level scope.now }
-        ensures { IfOk result (λ f. (e : Env) → Meaning f e ↔ holds expr.now (context scope.now e)) }
+        ensures says { IfOk result (λ f. (e : Env) → Meaning f e ↔ holds expr.now (context scope.now e)) }
+        ensures faults { IfErr result (λ f. IsLimit f ⊎ Faulty (signature scope.now) Class.Formula expr.now f) }
     {
         let calls = inner(calls, expr.span())?;
         self.spend(expr.span())?;
         match expr {
             Expr::True(_) => Ok(Formula::True),
             Expr::False(_) => Ok(negation(self.heap, Formula::True)?),
-            Expr::Unary(Unary::Not, a, _) => {
-                let a = self.formula(a, scope, level, calls)?;
-                Ok(negation(self.heap, a)?)
-            }
-            Expr::Binary(Binary::And, a, b, _) => {
-                let a = self.formula(a, scope, level, calls)?;
-                let b = self.formula(b, scope, level, calls)?;
-                Ok(and(self.heap, a, b)?)
-            }
-            Expr::Binary(Binary::Or, a, b, _) => {
-                let a = self.formula(a, scope, level, calls)?;
-                let b = self.formula(b, scope, level, calls)?;
-                Ok(or(self.heap, a, b)?)
-            }
-            Expr::Binary(Binary::Implies, a, b, _) => {
-                self.implication(a, b, scope, level, calls)
-            }
-            Expr::Binary(Binary::Iff, a, b, _) => {
-                let first = self.implication(a, b, scope, level, calls)?;
-                let second = self.implication(b, a, scope, level, calls)?;
-                Ok(and(self.heap, first, second)?)
-            }
+            Expr::Unary(sign, a, _) => match sign {
+                Unary::Not => {
+                    let a = self.formula(a, scope, level, calls)?;
+                    Ok(negation(self.heap, a)?)
+                }
+                _ => self.compared(expr, scope, calls),
+            },
+            Expr::Binary(sign, a, b, _) => match sign {
+                Binary::And => {
+                    let a = self.formula(a, scope, level, calls)?;
+                    let b = self.formula(b, scope, level, calls)?;
+                    Ok(and(self.heap, a, b)?)
+                }
+                Binary::Or => {
+                    let a = self.formula(a, scope, level, calls)?;
+                    let b = self.formula(b, scope, level, calls)?;
+                    Ok(or(self.heap, a, b)?)
+                }
+                Binary::Implies => self.implication(a, b, scope, level, calls),
+                Binary::Iff => {
+                    let first = self.implication(a, b, scope, level, calls)?;
+                    let second = self.implication(b, a, scope, level, calls)?;
+                    Ok(and(self.heap, first, second)?)
+                }
+                _ => self.compared(expr, scope, calls),
+            },
             Expr::Bound(quantifier, sort, names, body, _) => {
                 self.bound(*quantifier, *sort, names, body, scope, level, calls)
             }
@@ -225,7 +254,8 @@ impl Resolver {
         calls: u32,
     ) -> Result<Formula, Fault>
         requires { Steady level scope.now }
-        ensures { IfOk result (λ f. (e : Env) → Meaning f e ↔ (holds a.now (context scope.now e) → holds b.now (context scope.now e))) }
+        ensures says { IfOk result (λ f. (e : Env) → Meaning f e ↔ (holds a.now (context scope.now e) → holds b.now (context scope.now e))) }
+        ensures faults { IfErr result (λ f. IsLimit f ⊎ (Faulty (signature scope.now) Class.Formula a.now f ⊎ Faulty (signature scope.now) Class.Formula b.now f)) }
     {
         let calls = inner(calls, a.span())?;
         let a = self.formula(a, scope, level, calls)?;
@@ -246,7 +276,8 @@ impl Resolver {
         calls: u32,
     ) -> Result<Formula, Fault>
         requires { Steady level scope.now }
-        ensures { IfOk result (λ f. (e : Env) → Meaning f e ↔ quantified quantifier sort names.now (λ z. holds body.now z) (context scope.now e)) }
+        ensures says { IfOk result (λ f. (e : Env) → Meaning f e ↔ quantified quantifier sort names.now (λ z. holds body.now z) (context scope.now e)) }
+        ensures faults { IfErr result (λ f. IsLimit f ⊎ Faulty (with_names sort names.now (signature scope.now)) Class.Formula body.now f) }
     {
         let calls = inner(calls, body.span())?;
         let [first, others @ ..] = names else {
@@ -276,7 +307,8 @@ impl Resolver {
     ) -> Result<Formula, Fault>
         requires inside { Steady level scope.now }
         requires outside { Steady level around.now }
-        ensures { IfOk result (λ f. (e : Env) → Meaning f e ↔ holds body.now (bind_all parameters.now (map (λ a. value a (context around.now e)) arguments.now) (context scope.now e))) }
+        ensures says { IfOk result (λ f. (e : Env) → Meaning f e ↔ holds body.now (bind_all parameters.now (map (λ a. value a (context around.now e)) arguments.now) (context scope.now e))) }
+        ensures faults { IfErr result (λ f. IsLimit f ⊎ (length parameters.now ≡ length arguments.now → ((c : Class) × ((a : Expr) × (Among (c, a) (as_parameters parameters.now arguments.now) × Faulty (signature around.now) c a f))) ⊎ Faulty (with_parameters parameters.now (signature scope.now)) Class.Formula body.now f)) }
     {
         let calls = inner(calls, body.span())?;
         let [parameter, others @ ..] = parameters else {
@@ -298,7 +330,9 @@ impl Resolver {
         scope: &Scope<'_>,
         calls: u32,
     ) -> Result<Term, Fault>
-        ensures { IfOk result (λ t. (e : Env) → value term.now (context scope.now e) ≡ meant t e) }
+        ensures says { IfOk result (λ t. (e : Env) → value term.now (context scope.now e) ≡ meant t e) }
+        ensures sorts { IfOk result (λ t. term_sort t ≡ sort) }
+        ensures faults { IfErr result (λ f. IsLimit f ⊎ Faulty (signature scope.now) (class_of_sort sort) term.now f) }
     {
         let left = self.parts;
         let term = match sort {

@@ -1,10 +1,14 @@
 // Expressions as terms.
-ghost use Rattle.std.specs.Prelude.{◌≡◌, ℕ, ◌+◌, ◌-◌, map, IfOk, List, string_bytes};
+ghost use Rattle.std.specs.Prelude.{◌≡◌, ℕ, ◌+◌, ◌-◌, ◌⊎◌, map, IfOk, IfErr, List, string_bytes};
 ghost use Rattle.formulas.specs.Meaning;
 ghost use Rattle.formulas.specs.Meaning.{Env, members};
 ghost use Rattle.resolve.specs.Says.{value, place, set, each_place};
 ghost use Rattle.resolve.specs.declared.scope.Scope.{Scope as Known};
-ghost use Rattle.resolve.specs.Scopes.{meant, context};
+ghost use Rattle.resolve.specs.Scopes.{meant, context, term_sort, signature};
+ghost use Rattle.resolve.specs.Faults.{Faulty, sort_of, IsLimit, IsNumber, Among, class_of, class_of_sort, each_of};
+ghost use Rattle.trees.specs.Tree.{span_of};
+ghost use Rattle.trees.specs.declared.tree.Expr.{Expr};
+ghost use Rattle.resolve.specs.declared.fault.Class.{Class};
 
 use crate::built::{inter, least, minus, most, only, prev, succ, union};
 use crate::fault::{Class, Fault};
@@ -14,21 +18,22 @@ use std::alloc::Global;
 use trees::position::Span;
 use trees::tree::{Binary, Expr, Name, Unary};
 
-// How many parts a text may have once its predicates are expanded.
+/// How many parts a text may have once its predicates are expanded.
 pub const MOST_PARTS: u32 = 4000;
-// How many calls may be open.
+/// How many calls may be open.
 pub const MOST_CALLS: u32 = 3000;
 
-// Makes terms and formulas, as long as parts may still be made.
+/// Makes terms and formulas, as long as parts may still be made.
 #[derive(Drop)]
 pub struct Resolver {
     pub heap: Global,
     pub parts: u32,
 }
 
-// One call less may be open from here on.
+/// One call less may be open from here on. At 0 the limit `Deep` is told, at `span`.
 pub fn inner(calls: u32, span: Span) -> Result<u32, Fault>
-    ensures { IfOk result (λ left. left + 1 ≡ calls) }
+    ensures less { IfOk result (λ left. left + 1 ≡ calls) }
+    ensures faults { IfErr result (λ f. IsLimit f) }
 {
     if calls == 0 {
         return Err(Fault::Deep(span));
@@ -38,7 +43,8 @@ pub fn inner(calls: u32, span: Span) -> Result<u32, Fault>
 
 // The number that stands behind `+` or `-`.
 fn number(expr: &Expr) -> Result<u32, Fault>
-    ensures { IfOk result (λ n. (s : Known) (e : Env) → value expr.now (context s e) ≡ place n) }
+    ensures means { IfOk result (λ n. (s : Known) (e : Env) → value expr.now (context s e) ≡ place n) }
+    ensures faults { IfErr result (λ f. (IsNumber expr.now → ⊥) × f ≡ Fault.Number (span_of expr.now)) }
 {
     match expr {
         Expr::Number(n, _) => Ok(*n),
@@ -47,8 +53,10 @@ fn number(expr: &Expr) -> Result<u32, Fault>
 }
 
 impl Resolver {
-    // One part less may be made from here on.
-    pub fn spend(&mut self, span: Span) -> Result<(), Fault> {
+    /// One part less may be made from here on. At 0 the limit `Large` is told, at `span`.
+    pub fn spend(&mut self, span: Span) -> Result<(), Fault>
+        ensures { IfErr result (λ f. IsLimit f) }
+    {
         if self.parts == 0 {
             return Err(Fault::Large(span));
         }
@@ -58,7 +66,8 @@ impl Resolver {
 
     #[cycle(copying)]
     fn copied_place(&mut self, place: &Place, span: Span) -> Result<Place, Fault>
-        ensures { IfOk result (λ t. (e : Env) → Meaning.value t e ≡ Meaning.value place.now e) }
+        ensures means { IfOk result (λ t. (e : Env) → Meaning.value t e ≡ Meaning.value place.now e) }
+        ensures faults { IfErr result (λ f. IsLimit f) }
     {
         self.spend(span)?;
         match place {
@@ -85,7 +94,8 @@ impl Resolver {
 
     #[cycle(copying)]
     fn copied_group(&mut self, group: &Group, span: Span) -> Result<Group, Fault>
-        ensures { IfOk result (λ t. (e : Env) → members t e ≡ members group.now e) }
+        ensures means { IfOk result (λ t. (e : Env) → members t e ≡ members group.now e) }
+        ensures faults { IfErr result (λ f. IsLimit f) }
     {
         self.spend(span)?;
         match group {
@@ -114,7 +124,9 @@ impl Resolver {
     }
 
     fn copied(&mut self, term: &Term, span: Span) -> Result<Term, Fault>
-        ensures { IfOk result (λ t. (e : Env) → meant t e ≡ meant term.now e) }
+        ensures means { IfOk result (λ t. (e : Env) → meant t e ≡ meant term.now e) }
+        ensures sorts { IfOk result (λ t. term_sort t ≡ term_sort term.now) }
+        ensures faults { IfErr result (λ f. IsLimit f) }
     {
         match term {
             Term::Place(place) => Ok(Term::Place(self.copied_place(place, span)?)),
@@ -124,7 +136,8 @@ impl Resolver {
 
     // The place n further on.
     fn further(&mut self, place: Place, n: u32, span: Span) -> Result<Place, Fault>
-        ensures { IfOk result (λ t. (e : Env) → Meaning.value t e ≡ Meaning.value place e + n) }
+        ensures means { IfOk result (λ t. (e : Env) → Meaning.value t e ≡ Meaning.value place e + n) }
+        ensures faults { IfErr result (λ f. IsLimit f) }
     {
         let mut moved = place;
         for i in 0..n {
@@ -136,7 +149,8 @@ impl Resolver {
 
     // The place n before, but not before place 0.
     fn back(&mut self, place: Place, n: u32, span: Span) -> Result<Place, Fault>
-        ensures { IfOk result (λ t. (e : Env) → Meaning.value t e ≡ Meaning.value place e - n) }
+        ensures means { IfOk result (λ t. (e : Env) → Meaning.value t e ≡ Meaning.value place e - n) }
+        ensures faults { IfErr result (λ f. IsLimit f) }
     {
         let mut moved = place;
         for i in 0..n {
@@ -148,7 +162,9 @@ impl Resolver {
 
     // What a name stands for.
     fn name(&mut self, name: &Name, scope: &Scope<'_>) -> Result<Term, Fault>
-        ensures { IfOk result (λ t. (e : Env) → (context scope.now e).value (string_bytes name.now.text) ≡ meant t e) }
+        ensures means { IfOk result (λ t. (e : Env) → (context scope.now e).value (string_bytes name.now.text) ≡ meant t e) }
+        ensures sorts { IfOk result (λ t. sort_of (signature scope.now) (string_bytes name.now.text) ≡ Some (term_sort t)) }
+        ensures faults { IfErr result (λ f. IsLimit f ⊎ (sort_of (signature scope.now) (string_bytes name.now.text) ≡ None × f ≡ Fault.Name name.now.span)) }
     {
         match named(scope, name) {
             Some(term) => self.copied(term, name.span),
@@ -156,7 +172,10 @@ impl Resolver {
         }
     }
 
-    // The place or the set that an expression stands for.
+    /// The place or the set that an expression stands for.
+    ///
+    /// # Errors
+    /// A limit; that it is a formula, where `wanted` stands; or another fault that it has.
     #[cycle(terms)]
     pub fn term(
         &mut self,
@@ -165,7 +184,9 @@ impl Resolver {
         scope: &Scope<'_>,
         calls: u32,
     ) -> Result<Term, Fault>
-        ensures { IfOk result (λ t. (e : Env) → value expr.now (context scope.now e) ≡ meant t e) }
+        ensures means { IfOk result (λ t. (e : Env) → value expr.now (context scope.now e) ≡ meant t e) }
+        ensures sorts { IfOk result (λ t. class_of (signature scope.now) expr.now ≡ Some (class_of_sort (term_sort t))) }
+        ensures faults { IfErr result (λ f. IsLimit f ⊎ ((class_of (signature scope.now) expr.now ≡ Some Class.Formula × f ≡ Fault.Class wanted Class.Formula (span_of expr.now)) ⊎ ((v : Class) → Faulty (signature scope.now) v expr.now f))) }
     {
         let calls = inner(calls, expr.span())?;
         self.spend(expr.span())?;
@@ -174,44 +195,57 @@ impl Resolver {
             Expr::Number(n, span) => Ok(Term::Place(self.further(Place::First, *n, *span)?)),
             Expr::Empty(_) => Ok(Term::Set(Group::Empty)),
             Expr::Listed(all, _) => Ok(Term::Set(self.listed(all, scope, calls)?)),
-            Expr::Unary(Unary::Min, a, _) => {
-                let a = self.group(a, scope, calls)?;
-                Ok(Term::Place(least(self.heap, a)?))
+            Expr::Unary(sign, a, _) => match sign {
+                Unary::Min => {
+                    let a = self.group(a, scope, calls)?;
+                    Ok(Term::Place(least(self.heap, a)?))
+                }
+                Unary::Max => {
+                    let a = self.group(a, scope, calls)?;
+                    Ok(Term::Place(most(self.heap, a)?))
+                }
+                _ => Err(Fault::Class(wanted, Class::Formula, expr.span())),
+            },
+            Expr::Binary(sign, a, b, span) => match sign {
+                Binary::Plus => {
+                    let a = self.place(a, scope, calls)?;
+                    Ok(Term::Place(self.further(a, number(b)?, *span)?))
+                }
+                Binary::Minus => {
+                    let a = self.place(a, scope, calls)?;
+                    Ok(Term::Place(self.back(a, number(b)?, *span)?))
+                }
+                Binary::Union => {
+                    let a = self.group(a, scope, calls)?;
+                    let b = self.group(b, scope, calls)?;
+                    Ok(Term::Set(union(self.heap, a, b)?))
+                }
+                Binary::Inter => {
+                    let a = self.group(a, scope, calls)?;
+                    let b = self.group(b, scope, calls)?;
+                    Ok(Term::Set(inter(self.heap, a, b)?))
+                }
+                Binary::Without => {
+                    let a = self.group(a, scope, calls)?;
+                    let b = self.group(b, scope, calls)?;
+                    Ok(Term::Set(minus(self.heap, a, b)?))
+                }
+                _ => Err(Fault::Class(wanted, Class::Formula, expr.span())),
+            },
+            Expr::True(_) | Expr::False(_) | Expr::Bound(_, _, _, _, _) | Expr::Call(_, _, _) => {
+                Err(Fault::Class(wanted, Class::Formula, expr.span()))
             }
-            Expr::Unary(Unary::Max, a, _) => {
-                let a = self.group(a, scope, calls)?;
-                Ok(Term::Place(most(self.heap, a)?))
-            }
-            Expr::Binary(Binary::Plus, a, n, span) => {
-                let a = self.place(a, scope, calls)?;
-                Ok(Term::Place(self.further(a, number(n)?, *span)?))
-            }
-            Expr::Binary(Binary::Minus, a, n, span) => {
-                let a = self.place(a, scope, calls)?;
-                Ok(Term::Place(self.back(a, number(n)?, *span)?))
-            }
-            Expr::Binary(Binary::Union, a, b, _) => {
-                let a = self.group(a, scope, calls)?;
-                let b = self.group(b, scope, calls)?;
-                Ok(Term::Set(union(self.heap, a, b)?))
-            }
-            Expr::Binary(Binary::Inter, a, b, _) => {
-                let a = self.group(a, scope, calls)?;
-                let b = self.group(b, scope, calls)?;
-                Ok(Term::Set(inter(self.heap, a, b)?))
-            }
-            Expr::Binary(Binary::Without, a, b, _) => {
-                let a = self.group(a, scope, calls)?;
-                let b = self.group(b, scope, calls)?;
-                Ok(Term::Set(minus(self.heap, a, b)?))
-            }
-            _ => Err(Fault::Class(wanted, Class::Formula, expr.span())),
         }
     }
 
+    /// The place that an expression stands for.
+    ///
+    /// # Errors
+    /// A limit, or a fault that the expression has where a place is wanted.
     #[cycle(terms)]
     pub fn place(&mut self, expr: &Expr, scope: &Scope<'_>, calls: u32) -> Result<Place, Fault>
-        ensures { IfOk result (λ t. (e : Env) → value expr.now (context scope.now e) ≡ place (Meaning.value t e)) }
+        ensures means { IfOk result (λ t. (e : Env) → value expr.now (context scope.now e) ≡ place (Meaning.value t e)) }
+        ensures faults { IfErr result (λ f. IsLimit f ⊎ Faulty (signature scope.now) Class.Place expr.now f) }
     {
         let calls = inner(calls, expr.span())?;
         match self.term(Class::Place, expr, scope, calls)? {
@@ -220,9 +254,14 @@ impl Resolver {
         }
     }
 
+    /// The set that an expression stands for.
+    ///
+    /// # Errors
+    /// A limit, or a fault that the expression has where a set is wanted.
     #[cycle(terms)]
     pub fn group(&mut self, expr: &Expr, scope: &Scope<'_>, calls: u32) -> Result<Group, Fault>
-        ensures { IfOk result (λ t. (e : Env) → value expr.now (context scope.now e) ≡ set (members t e)) }
+        ensures means { IfOk result (λ t. (e : Env) → value expr.now (context scope.now e) ≡ set (members t e)) }
+        ensures faults { IfErr result (λ f. IsLimit f ⊎ Faulty (signature scope.now) Class.Set expr.now f) }
     {
         let calls = inner(calls, expr.span())?;
         match self.term(Class::Set, expr, scope, calls)? {
@@ -234,7 +273,8 @@ impl Resolver {
     // The set of the places of a list.
     #[cycle(terms)]
     fn listed(&mut self, all: &[Expr], scope: &Scope<'_>, calls: u32) -> Result<Group, Fault>
-        ensures { IfOk result (λ t. (e : Env) → each_place (map (λ a. value a (context scope.now e)) all.now) ≡ members t e) }
+        ensures means { IfOk result (λ t. (e : Env) → each_place (map (λ a. value a (context scope.now e)) all.now) ≡ members t e) }
+        ensures faults { IfErr result (λ f. IsLimit f ⊎ ((a : Expr) × (Among (Class.Place, a) (each_of Class.Place all.now) × Faulty (signature scope.now) Class.Place a f))) }
     {
         let [first, others @ ..] = all else {
             return Ok(Group::Empty);

@@ -1,4 +1,7 @@
 // The tree of a text. Whether a part is a formula, a place or a set is not told here: names decide that.
+ghost use Rattle.std.specs.Prelude.{◌≡◌};
+ghost use Rattle.trees.specs.Tree.{span_of};
+
 use crate::position::Span;
 
 #[derive(Drop)]
@@ -64,7 +67,10 @@ pub enum Expr {
 }
 
 impl Expr {
-    pub fn span(&self) -> Span {
+    /// Where the expression stands.
+    pub fn span(&self) -> Span
+        ensures { result ≡ span_of self.now }
+    {
         match self {
             Expr::True(span)
             | Expr::False(span)

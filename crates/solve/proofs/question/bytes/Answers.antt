@@ -9,7 +9,7 @@ use Rattle.solve.proofs.question.bytes.Goals as goal
 
 pub returns-clause-puts : goal.returns-clause-puts
 returns-clause-puts c =
-    let asks = c.in_ok-asked.ensures in
+    let asks = c.in_ok-asked.ensures.asks in
     let asked = c.in_ok-asked.asked in
     let names = c.deref-2.ensures.value ∙ c.in_ok-push_names.ensures ∙ ap (λ l. l ++ numbered 0 (free c.deref.result.now)) c.new-names.ensures.items
     ∙ ap (λ l. numbered 0 (free l)) c.deref.ensures.value ∙ ap (λ l. numbered 0 l) asks.names in

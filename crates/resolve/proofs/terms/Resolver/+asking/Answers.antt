@@ -1,39 +1,42 @@
-use Rattle.std.proofs.Common.{◌≡◌, suc, ◌-◌, ◌++◌, ◌∷◌, map, length, take, drop, ◌∙◌, sym, refl, ap, subst, arith, rules, add-one, OnOk}
-use Rattle.formulas.specs.Meaning.{Env}
+use Rattle.std.proofs.Common.{◌≡◌, inl, inr, List, suc, ◌-◌, ◌++◌, ◌∷◌, map, length, take, drop, ◌∙◌, sym, refl, ap, subst, arith, rules, add-one, OnOk}
 use Rattle.resolve.specs.Says.{holds, bind, given, declare, count, text_from}
-use Rattle.resolve.specs.Scopes.{context, Settled, Steady}
+use Rattle.resolve.specs.Scopes.{context, signature, Settled, Steady}
 use Rattle.resolve.specs.Asks.{declared, AsksMore}
 use Rattle.resolve.proofs.Iff.{on_ok}
 use Rattle.resolve.proofs.ScopesLaws.{steady_more}
 use Rattle.resolve.proofs.ValuesLaws.{head_rest}
+use Rattle.trees.specs.declared.tree.Name.{Name}
+use Rattle.resolve.specs.Faults.{Faulty, FaultyText}
+use Rattle.resolve.specs.declared.fault.Class.TheVariants.{Formula}
+use Rattle.resolve.proofs.TextFaultsLaws.{text_tail, text_passed, InNames, names_more}
 use Rattle.resolve.proofs.AsksLaws.{assumed_more, claimed_more, name_more, rest_same}
 use Rattle.resolve.proofs.terms.Resolver.+asking.Goals as goal
 
-pub items-returns-in-Free : goal.items-returns-in-Free
-items-returns-in-Free t c =
+pub items-returns-in-Free-clause-says : goal.items-returns-in-Free-clause-says
+items-returns-in-Free-clause-says t c =
     let xs = c.args.items.now in
     let rest = take (length xs - 1) (drop 1 xs) in
     let parts = head_rest xs c.first-item.result (omega (arith, c.in-len1-up.len_at_least)) c.first-item.is ∙ ap (λ z. z ∷ rest) c.in-Free.is in
     rw parts (subst (λ l. OnOk c.names.result (AsksMore c.args.asked.now c.names.new.asked (map (λ x. (x, c.in-Free.sort)) l ++ declared rest)
-    (λ e. text_from rest (count c.args.level l) e (declare c.in-Free.sort l c.args.level e (context c.args.scope.now e))))) c.deref.ensures.value c.names.ensures)
+    (λ e. text_from rest (count c.args.level l) e (declare c.in-Free.sort l c.args.level e (context c.args.scope.now e))))) c.deref.ensures.value c.names.ensures.says)
 
-pub items-returns-in_ok-push-in-Assert : goal.items-returns-in_ok-push-in-Assert
-items-returns-in_ok-push-in-Assert t c =
+pub items-returns-in_ok-push-in-Assert-clause-says : goal.items-returns-in_ok-push-in-Assert-clause-says
+items-returns-in_ok-push-in-Assert-clause-says t c =
     let xs = c.args.items.now in
     let rest = take (length xs - 1) (drop 1 xs) in
     let parts = head_rest xs c.first-item.result (omega (arith, c.in-len1-up.len_at_least)) c.first-item.is ∙ ap (λ z. z ∷ rest) c.in-Assert.is in
     rw parts (on_ok c.items-in-Assert.result _ _
     (λ m. assumed_more c.args.asked.now _ c.items-in-Assert.new.asked (declared rest) (λ e. text_from rest c.args.level e (context c.args.scope.now e)) _
-    (λ e. holds c.in-Assert.expr (context c.args.scope.now e)) refl c.in_ok-push-in-Assert.ensures.items refl c.in_ok-formula-in-Assert.ensures m) c.items-in-Assert.ensures)
+    (λ e. holds c.in-Assert.expr (context c.args.scope.now e)) refl c.in_ok-push-in-Assert.ensures.items refl c.in_ok-formula-in-Assert.ensures.says m) c.items-in-Assert.ensures.says)
 
-pub items-returns-in_ok-push-in-Formula : goal.items-returns-in_ok-push-in-Formula
-items-returns-in_ok-push-in-Formula t c =
+pub items-returns-in_ok-push-in-Formula-clause-says : goal.items-returns-in_ok-push-in-Formula-clause-says
+items-returns-in_ok-push-in-Formula-clause-says t c =
     let xs = c.args.items.now in
     let rest = take (length xs - 1) (drop 1 xs) in
     let parts = head_rest xs c.first-item.result (omega (arith, c.in-len1-up.len_at_least)) c.first-item.is ∙ ap (λ z. z ∷ rest) c.in-Formula.is in
     rw parts (on_ok c.items-in-Formula.result _ _
     (λ m. claimed_more c.args.asked.now _ c.items-in-Formula.new.asked (declared rest) (λ e. text_from rest c.args.level e (context c.args.scope.now e)) _
-    (λ e. holds c.in-Formula.expr (context c.args.scope.now e)) refl c.in_ok-push-in-Formula.ensures.items refl c.in_ok-formula-in-Formula.ensures m) c.items-in-Formula.ensures)
+    (λ e. holds c.in-Formula.expr (context c.args.scope.now e)) refl c.in_ok-push-in-Formula.ensures.items refl c.in_ok-formula-in-Formula.ensures.says m) c.items-in-Formula.ensures.says)
 
 pub names-names-requires : goal.names-names-requires
 names-names-requires t c =
@@ -41,8 +44,8 @@ names-names-requires t c =
     let e : c.in-Some.next ≡ suc n = omega (arith, c.in-Some.ensures) in
     (search rules, (subst (λ m. Settled m c.numbered-term.result) (sym e) (subst (λ m. Settled m c.numbered-term.result) (add-one n) c.numbered-term.ensures.settled), subst (λ m. Steady m c.args.scope.now) (sym e) (steady_more n c.args.scope.now c.requires)))
 
-pub names-returns : goal.names-returns
-names-returns t c =
+pub names-returns-clause-says : goal.names-returns-clause-says
+names-returns-clause-says t c =
     let n = c.args.level in
     let xs = c.args.names.now in
     let x = c.name-item.result in
@@ -56,4 +59,46 @@ names-returns t c =
     c.in_ok-push.ensures.items refl refl
     (rest_same _ c.names.new.asked _ _ _ (λ f.
     ap (λ v. text_from items (count c.in-Some.next ys) f (declare sort ys c.in-Some.next f (bind x v (context c.args.scope.now f)))) (c.numbered-term.ensures.means f)
-    ∙ ap (λ k. text_from items (count k ys) f (declare sort ys k f (bind x (given sort n f) (context c.args.scope.now f)))) e) m)) c.names.ensures)
+    ∙ ap (λ k. text_from items (count k ys) f (declare sort ys k f (bind x (given sort n f) (context c.args.scope.now f)))) e) m)) c.names.ensures.says)
+
+pub items-returns-in-Free-clause-faults : goal.items-returns-in-Free-clause-faults
+items-returns-in-Free-clause-faults t c =
+    let xs = c.args.items.now in
+    let rest = take (length xs - 1) (drop 1 xs) in
+    let parts = head_rest xs c.first-item.result (omega (arith, c.in-len1-up.len_at_least)) c.first-item.is ∙ ap (λ z. z ∷ rest) c.in-Free.is in
+    text_tail c.names.result (signature c.args.scope.now) xs rest _ (λ f. InNames (signature c.args.scope.now) c.in-Free.sort c.deref.result.now rest f) parts (λ g h. subst (λ (l : List Name). InNames (signature c.args.scope.now) c.in-Free.sort l rest g) c.deref.ensures.value h) c.names.ensures.faults
+
+pub items-returns-in_err-formula-in-Assert-clause-faults : goal.items-returns-in_err-formula-in-Assert-clause-faults
+items-returns-in_err-formula-in-Assert-clause-faults t c =
+    let xs = c.args.items.now in
+    let rest = take (length xs - 1) (drop 1 xs) in
+    let parts = head_rest xs c.first-item.result (omega (arith, c.in-len1-up.len_at_least)) c.first-item.is ∙ ap (λ z. z ∷ rest) c.in-Assert.is in
+    text_passed c.from_residual-in_err-formula-in-Assert.result (signature c.args.scope.now) xs rest _ (λ f. Faulty (signature c.args.scope.now) Formula c.in-Assert.expr f) _ c.from_residual-in_err-formula-in-Assert.ensures.1 parts (λ q. inl q) c.in_err-formula-in-Assert.ensures.faults
+
+pub items-returns-in_ok-push-in-Assert-clause-faults : goal.items-returns-in_ok-push-in-Assert-clause-faults
+items-returns-in_ok-push-in-Assert-clause-faults t c =
+    let xs = c.args.items.now in
+    let rest = take (length xs - 1) (drop 1 xs) in
+    let parts = head_rest xs c.first-item.result (omega (arith, c.in-len1-up.len_at_least)) c.first-item.is ∙ ap (λ z. z ∷ rest) c.in-Assert.is in
+    text_tail c.items-in-Assert.result (signature c.args.scope.now) xs rest _ (λ f. FaultyText rest (signature c.args.scope.now) f) parts (λ g q. inr q) c.items-in-Assert.ensures.faults
+
+pub items-returns-in_err-formula-in-Formula-clause-faults : goal.items-returns-in_err-formula-in-Formula-clause-faults
+items-returns-in_err-formula-in-Formula-clause-faults t c =
+    let xs = c.args.items.now in
+    let rest = take (length xs - 1) (drop 1 xs) in
+    let parts = head_rest xs c.first-item.result (omega (arith, c.in-len1-up.len_at_least)) c.first-item.is ∙ ap (λ z. z ∷ rest) c.in-Formula.is in
+    text_passed c.from_residual-in_err-formula-in-Formula.result (signature c.args.scope.now) xs rest _ (λ f. Faulty (signature c.args.scope.now) Formula c.in-Formula.expr f) _ c.from_residual-in_err-formula-in-Formula.ensures.1 parts (λ q. inl q) c.in_err-formula-in-Formula.ensures.faults
+
+pub items-returns-in_ok-push-in-Formula-clause-faults : goal.items-returns-in_ok-push-in-Formula-clause-faults
+items-returns-in_ok-push-in-Formula-clause-faults t c =
+    let xs = c.args.items.now in
+    let rest = take (length xs - 1) (drop 1 xs) in
+    let parts = head_rest xs c.first-item.result (omega (arith, c.in-len1-up.len_at_least)) c.first-item.is ∙ ap (λ z. z ∷ rest) c.in-Formula.is in
+    text_tail c.items-in-Formula.result (signature c.args.scope.now) xs rest _ (λ f. FaultyText rest (signature c.args.scope.now) f) parts (λ g q. inr q) c.items-in-Formula.ensures.faults
+
+pub names-returns-clause-faults : goal.names-returns-clause-faults
+names-returns-clause-faults t c =
+    let xs = c.args.names.now in
+    let ys = take (length xs - 1) (drop 1 xs) in
+    let parts = head_rest xs c.name-item.result (omega (arith, c.in-len1-up.len_at_least)) c.name-item.is in
+    names_more c.names.result (signature c.args.scope.now) c.args.sort _ xs ys c.name-item.result c.args.rest.now parts c.numbered-term.ensures.sorts c.names.ensures.faults

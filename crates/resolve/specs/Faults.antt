@@ -1,0 +1,184 @@
+-- Which faults a text has, and where. Of a name only its sort matters, so nothing here speaks of terms or values.
+use Rattle.std.specs.Prelude.{◌≡◌, ℕ, cond, ◌⊎◌, List, [], ◌∷◌, length, string_bytes, Option, Some, None, IsSome, Vec}
+use Rattle.std.specs.Str.{bytes_eq}
+use Rattle.std.specs.Global.{Global}
+use Rattle.trees.specs.Tree.{span_of}
+use Rattle.trees.specs.declared.position.Span.{Span}
+use Rattle.trees.specs.declared.tree.Name.{Name}
+use Rattle.trees.specs.declared.tree.Sort.{Sort}
+use Rattle.trees.specs.declared.tree.Sort.TheVariants.{Place as OfPlace, Set as OfSet}
+use Rattle.trees.specs.declared.tree.Quantifier.{Quantifier}
+use Rattle.trees.specs.declared.tree.Unary.TheVariants.{Not, Min, Max, IsEmpty}
+use Rattle.trees.specs.declared.tree.Binary.TheVariants.{Iff, Implies, Or, And, In, NotIn, Sub, Equal, Differs, Less, AtMost, Greater, AtLeast, Union, Inter, Without, Plus, Minus}
+use Rattle.trees.specs.declared.tree.Expr.{Expr, Listed, Call}
+use Rattle.trees.specs.declared.tree.Expr.TheVariants.{True, False, Empty, Number, Named, Listed', Unary', Binary', Bound', Call'}
+use Rattle.trees.specs.declared.tree.Parameter.{Parameter}
+use Rattle.trees.specs.declared.tree.Predicate.{Predicate}
+use Rattle.trees.specs.declared.tree.Item.{Item}
+use Rattle.trees.specs.declared.tree.Item.TheVariants.{Free, Predicate as Defined, Assert, Formula as Claimed}
+use Rattle.resolve.specs.declared.fault.Class.{Class}
+use Rattle.resolve.specs.declared.fault.Class.TheVariants.{Formula, Place, Set}
+use Rattle.resolve.specs.declared.fault.Fault.{Fault}
+use Rattle.resolve.specs.declared.fault.Fault.TheVariants.{Class as OtherClass, Number as NoNumber, Name as NoName, Predicate as NoPredicate, Arguments as OtherCount, Again, Deep, Large, Memory}
+
+-- the names and predicates that are known where a part of a text stands, the innermost first
+pub data Signature : Type 0 where
+  outermost : Signature
+  named : List ℕ → Sort → Signature → Signature
+  defined : Predicate → Signature → Signature
+
+abbrev pub sort_of : Signature → List ℕ → Option Sort
+sort_of outermost y = None
+sort_of (named x sort k) y = cond (bytes_eq x y) (Some sort) (sort_of k y)
+sort_of (defined p k) y = sort_of k y
+
+-- a predicate, and what is known where it is declared
+abbrev pub predicate_of : Signature → List ℕ → Option (Predicate × Signature)
+predicate_of outermost y = None
+predicate_of (named x sort k) y = predicate_of k y
+predicate_of (defined p k) y = cond (bytes_eq (string_bytes p.name.text) y) (Some (p, k)) (predicate_of k y)
+
+abbrev pub with_names : Sort → List Name → Signature → Signature
+with_names sort [] k = k
+with_names sort (x ∷ xs) k = with_names sort xs (named (string_bytes x.text) sort k)
+
+abbrev pub with_parameters : List Parameter → Signature → Signature
+with_parameters [] k = k
+with_parameters (p ∷ ps) k = with_parameters ps (named (string_bytes p.name.text) p.sort k)
+
+abbrev pub class_of_sort : Sort → Class
+class_of_sort OfPlace = Place
+class_of_sort OfSet = Set
+
+abbrev pub class_of_name : Option Sort → Option Class
+class_of_name None = None
+class_of_name (Some sort) = Some (class_of_sort sort)
+
+-- what an expression is by its own sign; a name that is not known is nothing
+abbrev pub class_of : Signature → Expr → Option Class
+class_of k (Number n span) = Some Place
+class_of k (Empty span) = Some Set
+class_of k (Named x) = class_of_name (sort_of k (string_bytes x.text))
+class_of k (Listed' shape all span) = Some Set
+class_of k (Unary' Min _ a span) = Some Place
+class_of k (Unary' Max _ a span) = Some Place
+class_of k (Binary' Union _ a _ b span) = Some Set
+class_of k (Binary' Inter _ a _ b span) = Some Set
+class_of k (Binary' Without _ a _ b span) = Some Set
+class_of k (Binary' Plus _ a _ b span) = Some Place
+class_of k (Binary' Minus _ a _ b span) = Some Place
+class_of k _ = Some Formula
+
+abbrev pub each_of : Class → List Expr → List (Class × Expr)
+each_of c [] = []
+each_of c (a ∷ all) = (c, a) ∷ each_of c all
+
+abbrev pub as_parameters : List Parameter → List Expr → List (Class × Expr)
+as_parameters [] all = []
+as_parameters (p ∷ ps) [] = []
+as_parameters (p ∷ ps) (a ∷ all) = (class_of_sort p.sort, a) ∷ as_parameters ps all
+
+-- both sides of an equality are sets if the first is, and places otherwise
+abbrev pub side : Option Class → Class
+side (Some Set) = Set
+side _ = Place
+
+-- the operands of a sign, each with what it has to be
+abbrev pub operands : Signature → Expr → List (Class × Expr)
+operands k (Unary' Not _ a span) = (Formula, a) ∷ []
+operands k (Unary' Min _ a span) = (Set, a) ∷ []
+operands k (Unary' Max _ a span) = (Set, a) ∷ []
+operands k (Unary' IsEmpty _ a span) = (Set, a) ∷ []
+operands k (Binary' Iff _ a _ b span) = (Formula, a) ∷ (Formula, b) ∷ []
+operands k (Binary' Implies _ a _ b span) = (Formula, a) ∷ (Formula, b) ∷ []
+operands k (Binary' Or _ a _ b span) = (Formula, a) ∷ (Formula, b) ∷ []
+operands k (Binary' And _ a _ b span) = (Formula, a) ∷ (Formula, b) ∷ []
+operands k (Binary' In _ a _ b span) = (Place, a) ∷ (Set, b) ∷ []
+operands k (Binary' NotIn _ a _ b span) = (Place, a) ∷ (Set, b) ∷ []
+operands k (Binary' Sub _ a _ b span) = (Set, a) ∷ (Set, b) ∷ []
+operands k (Binary' Equal _ a _ b span) = (side (class_of k a), a) ∷ (side (class_of k a), b) ∷ []
+operands k (Binary' Differs _ a _ b span) = (side (class_of k a), a) ∷ (side (class_of k a), b) ∷ []
+operands k (Binary' Less _ a _ b span) = (Place, a) ∷ (Place, b) ∷ []
+operands k (Binary' AtMost _ a _ b span) = (Place, a) ∷ (Place, b) ∷ []
+operands k (Binary' Greater _ a _ b span) = (Place, a) ∷ (Place, b) ∷ []
+operands k (Binary' AtLeast _ a _ b span) = (Place, a) ∷ (Place, b) ∷ []
+operands k (Binary' Union _ a _ b span) = (Set, a) ∷ (Set, b) ∷ []
+operands k (Binary' Inter _ a _ b span) = (Set, a) ∷ (Set, b) ∷ []
+operands k (Binary' Without _ a _ b span) = (Set, a) ∷ (Set, b) ∷ []
+operands k (Binary' Plus _ a _ b span) = (Place, a) ∷ []
+operands k (Binary' Minus _ a _ b span) = (Place, a) ∷ []
+operands k _ = []
+
+-- the operand that has to be a number
+abbrev pub NeedsNumber : Expr → Expr → Type 0
+NeedsNumber (Binary' Plus _ a _ b span) n = b ≡ n
+NeedsNumber (Binary' Minus _ a _ b span) n = b ≡ n
+NeedsNumber _ n = ⊥
+
+abbrev pub IsNumber : Expr → Type 0
+IsNumber (Number n span) = Unit {0}
+IsNumber _ = ⊥
+
+abbrev pub Among : {A : Type 0} → A → List A → Type 0
+Among x [] = ⊥
+Among x (y ∷ l) = (x ≡ y) ⊎ Among x l
+
+-- truth values, connectives, quantifiers and predicates, which are made of formulas
+abbrev pub Connects : Expr → Type 0
+Connects (True span) = Unit {0}
+Connects (False span) = Unit {0}
+Connects (Unary' Not _ a span) = Unit {0}
+Connects (Binary' Iff _ a _ b span) = Unit {0}
+Connects (Binary' Implies _ a _ b span) = Unit {0}
+Connects (Binary' Or _ a _ b span) = Unit {0}
+Connects (Binary' And _ a _ b span) = Unit {0}
+Connects (Bound' q sort names _ a span) = Unit {0}
+Connects (Call' f shape all span) = Unit {0}
+Connects _ = ⊥
+
+-- an expression has this fault where it has to be of the wanted class
+pub data Faulty : Signature → Class → Expr → Fault → Type 0 where
+  -- it is of another class
+  other_class : {k : Signature} {wanted c : Class} {e : Expr} → class_of k e ≡ Some c → (c ≡ wanted → ⊥) → Faulty k wanted e (OtherClass wanted c (span_of e))
+  -- a name that is not known
+  no_name : {k : Signature} {wanted : Class} {x : Name} → sort_of k (string_bytes x.text) ≡ None → Faulty k wanted (Named x) (NoName x.span)
+  -- no number behind + or -
+  no_number : {k : Signature} {wanted : Class} {e : Expr} (n : Expr) → NeedsNumber e n → (IsNumber n → ⊥) → Faulty k wanted e (NoNumber (span_of n))
+  -- a predicate that is not known
+  no_predicate : {k : Signature} {x : Name} (all : Vec Expr Global) {span : Span} → predicate_of k (string_bytes x.text) ≡ None → Faulty k Formula (Call x all span) (NoPredicate x.span)
+  -- not as many arguments as the predicate has parameters
+  other_count : {k d : Signature} {p : Predicate} {x : Name} (all : Vec Expr Global) {span : Span} → predicate_of k (string_bytes x.text) ≡ Some (p, d) → (length p.parameters.items ≡ length all.items → ⊥) →
+      Faulty k Formula (Call x all span) (OtherCount (length p.parameters.items) (length all.items) span)
+  -- an operand has the fault
+  in_operand : {k : Signature} {wanted c : Class} {e a : Expr} {f : Fault} → Among (c, a) (operands k e) → Faulty k c a f → Faulty k wanted e f
+  -- a place of a list has it
+  in_list : {k : Signature} {wanted : Class} (all : Vec Expr Global) {span : Span} {a : Expr} {f : Fault} → Among (Place, a) (each_of Place all.items) → Faulty k Place a f → Faulty k wanted (Listed all span) f
+  -- what is said of the names that a quantifier binds has it
+  in_bound : {k : Signature} {q : Quantifier} {sort : Sort} {names : Vec Name Global} {at : _} {a : Expr} {span : Span} {f : Fault} → Faulty (with_names sort names.items k) Formula a f → Faulty k Formula (Bound' q sort names at a span) f
+  -- an argument of a predicate has it
+  in_argument : {k d : Signature} {p : Predicate} {x : Name} (all : Vec Expr Global) {span : Span} {c : Class} {a : Expr} {f : Fault} → predicate_of k (string_bytes x.text) ≡ Some (p, d) → Among (c, a) (as_parameters p.parameters.items all.items) → Faulty k c a f →
+      Faulty k Formula (Call x all span) f
+  -- the body of a predicate has it, where it is declared
+  in_body : {k d : Signature} {p : Predicate} {x : Name} (all : Vec Expr Global) {span : Span} {f : Fault} → predicate_of k (string_bytes x.text) ≡ Some (p, d) → Faulty (with_parameters p.parameters.items d) Formula p.body f → Faulty k Formula (Call x all span) f
+
+-- more than can be worked on, which is no fault of the text
+abbrev pub IsLimit : Fault → Type 0
+IsLimit (Deep span) = Unit {0}
+IsLimit (Large span) = Unit {0}
+IsLimit Memory = Unit {0}
+IsLimit _ = ⊥
+
+-- one of the names is known already
+abbrev pub NamedAgain : Sort → List Name → Signature → Fault → Type 0
+NamedAgain sort [] k f = ⊥
+NamedAgain sort (x ∷ xs) k f = (IsSome (sort_of k (string_bytes x.text)) × f ≡ Again x.span) ⊎ NamedAgain sort xs (named (string_bytes x.text) sort k) f
+
+-- one of the items has this fault, where those before it are known
+abbrev pub FaultyText : List Item → Signature → Fault → Type 0
+FaultyText [] k f = ⊥
+FaultyText (Free sort names ∷ items) k f = NamedAgain sort names.items k f ⊎ FaultyText items (with_names sort names.items k) f
+FaultyText (Defined p ∷ items) k f =
+    (IsSome (predicate_of k (string_bytes p.name.text)) × f ≡ Again p.name.span)
+    ⊎ (Faulty (with_parameters p.parameters.items k) Formula p.body f ⊎ FaultyText items (defined p k) f)
+FaultyText (Assert a ∷ items) k f = Faulty k Formula a f ⊎ FaultyText items k f
+FaultyText (Claimed a ∷ items) k f = Faulty k Formula a f ⊎ FaultyText items k f
