@@ -1,2 +1,4 @@
 -- Lemmas on the tokens of a text.
 pub mod RisingLaws
+pub mod WrittenLaws
+pub mod RoundTrip

@@ -1,3 +1,6 @@
 -- What the contracts of the readable form's text cite.
 pub mod Reading
 pub mod Rising
+pub mod Plain
+pub mod Parsing
+pub mod Grammar
