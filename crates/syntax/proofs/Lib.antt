@@ -2,3 +2,6 @@
 pub mod RisingLaws
 pub mod WrittenLaws
 pub mod RoundTrip
+pub mod AsciiLaws
+pub mod NamesLaws
+pub mod ExpressionLaws

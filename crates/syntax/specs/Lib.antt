@@ -4,3 +4,4 @@ pub mod Rising
 pub mod Plain
 pub mod Parsing
 pub mod Grammar
+pub mod Views

@@ -153,6 +153,11 @@ names_at n ws = do
 abbrev pub Reader : Type 0
 Reader = ℕ → List Word → Read Plain
 
+-- how tight what stands behind a sign or word has to bind
+abbrev pub lowest_of : Unary → ℕ
+lowest_of unary.Not = 6
+lowest_of _ = 9
+
 -- further expressions behind commas, as long as there are commas, n at most
 abbrev pub more_items : Reader → ℕ → Plains → List Word → Read Plains
 more_items p zero ts ws = Ok (ts, ws)
@@ -160,13 +165,16 @@ more_items p (suc n) ts ws = if begins kind.Comma ws then (do
   t ← p 0 (tail ws)
   more_items p n (push ts t.0) t.1) else Ok (ts, ws)
 
--- expressions with commas between them, up to a sign that closes them
-abbrev pub items : Reader → ℕ → Kind → List Word → Read Plains
-items p n close ws = do
-  t ← p 0 ws
-  ts ← more_items p n (more t.0 none) t.1
+-- what was read, where a sign follows that closes it
+abbrev pub up_to : Kind → Read Plains → Read Plains
+up_to close read = do
+  ts ← read
   rest ← behind close ts.1
   Ok (ts.0, rest)
+
+-- expressions with commas between them, up to a sign that closes them
+abbrev pub items : Reader → ℕ → Kind → List Word → Read Plains
+items p n close ws = up_to close (p 0 ws >>= λ t. more_items p n (more t.0 none) t.1)
 
 -- a tree that is not too deep, and the words behind it
 abbrev pub whole : Plain → List Word → Read Plain
@@ -218,7 +226,9 @@ operand_of p n kind.False d ws = Ok (no, ws)
 operand_of p n kind.Number d ws = do
   v ← number_of d
   Ok (number v, ws)
-operand_of p n kind.Name d ws = if ascii d then named_at p n d ws else Err wrong
+operand_of p n kind.Name d ws = do
+  f ← name (word kind.Name d ∷ ws)
+  named_at p n f.0 f.1
 operand_of p n kind.Empty d ws = empty_at p ws
 operand_of p n kind.Open d ws = paren_at p ws
 operand_of p n kind.OpenSet d ws = set_at p n ws
