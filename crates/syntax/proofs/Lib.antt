@@ -5,3 +5,4 @@ pub mod RoundTrip
 pub mod AsciiLaws
 pub mod NamesLaws
 pub mod ExpressionLaws
+pub mod ItemsLaws

@@ -1,7 +1,7 @@
 -- What the contracts of the readable form's text cite.
-pub mod Reading
 pub mod Rising
 pub mod Plain
 pub mod Parsing
 pub mod Grammar
 pub mod Views
+pub mod Items

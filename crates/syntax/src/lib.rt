@@ -3,6 +3,7 @@
 
 mod expression;
 pub mod fault;
+mod items;
 pub mod operators;
 pub mod parse;
 pub mod print;

@@ -14,13 +14,14 @@ use trees::tree::{Binary, Name};
 // The largest number.
 pub const MOST_NUMBER: u32 = 1000;
 
-// A text: where its last token ends, and how many tokens it has.
+// A text: where its last token ends, how many tokens it has, and how many expressions may be open, one within the other.
 #[derive(Clone, Copy)]
 pub struct Source<'t> {
     pub heap: Global,
     pub text: &'t [u8],
     pub end: usize,
     pub count: usize,
+    pub open: u32,
 }
 
 // The bytes of a token, as far as they are in the text.
