@@ -1,8 +1,11 @@
--- Lemmas on the tokens of a text.
-pub mod RisingLaws
-pub mod WrittenLaws
-pub mod RoundTrip
+-- Lemmas on the tokens of a text and on reading them.
+pub mod GapsLaws
+pub mod CoveringLaws
 pub mod AsciiLaws
 pub mod NamesLaws
+pub mod WrittenLaws
+pub mod RoundTrip
 pub mod ExpressionLaws
 pub mod ItemsLaws
+pub mod ItemsAgain
+pub mod ParseLaws

@@ -1,6 +1,6 @@
 // Reads a text: its tokens, and from these its items.
 ghost use Rattle.std.specs.Prelude.{◌≡◌, ℕ, Ok, List, IfOk, length, map};
-ghost use Rattle.syntax.specs.Rising.{Rising};
+ghost use Rattle.syntax.specs.Covering.{Covers};
 ghost use Rattle.syntax.specs.declared.token.Token.{Token};
 ghost use Rattle.syntax.specs.Views.{words, Gives};
 ghost use Rattle.syntax.specs.Items.{PlainItem, view_items, read_words, written_items, bare_item, AreItems};
@@ -21,6 +21,13 @@ fn end_of(tokens: &[Token]) -> usize {
     }
 }
 
+// How many expressions may be open.
+fn most_open() -> u32
+    ensures { result ≡ 2000 }
+{
+    MOST_OPEN
+}
+
 /// The items that the tokens of a text are, or the first fault in them.
 ///
 /// What is read is what `read_words` gives; tokens that are written as items, with parentheses where they must or may stand, are read as these items,
@@ -38,18 +45,20 @@ pub fn read_tokens(heap: Global, text: &[u8], tokens: &[Token]) -> Result<Vec<It
         text,
         end: end_of(tokens),
         count: tokens.len(),
-        open: MOST_OPEN,
+        open: most_open(),
     };
     items(&source, tokens)
 }
 
 /// The items of a text, or the first fault in it.
 ///
+/// Between the tokens that were read stand blanks and comments only, and what is given is what they are read as.
+///
 /// # Errors
 ///
 /// The first fault, that something is too large, or that there is not enough memory.
 pub fn read(heap: Global, text: &[u8]) -> Result<Vec<Item>, Fault>
-    ensures { IfOk result (λ v. (all : List Token) × Rising 0 all (length text.now) × ((c : ℕ) → c ≡ 2000 → read_words (length all) c (words text.now all) ≡ Ok (view_items v.items))) }
+    ensures { IfOk result (λ v. (all : List Token) × Covers text.now 0 all (length text.now) × ((c : ℕ) → c ≡ 2000 → read_words (length all) c (words text.now all) ≡ Ok (view_items v.items))) }
 {
     let tokens = tokens(heap, text)?;
     read_tokens(heap, text, &tokens)
