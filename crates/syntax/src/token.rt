@@ -1,7 +1,8 @@
 // The tokens of a text. Blanks, and comments from `#` to the end of the line, stand between them.
-ghost use Rattle.std.specs.Prelude.{◌≡◌, ℕ, ◌+◌, ◌<◌, ◌≤◌, length, take, false, IsTrue, IfSome, IfOk};
+ghost use Rattle.std.specs.Prelude.{◌≡◌, ℕ, ◌+◌, ◌<◌, ◌≤◌, ◌∷◌, [], length, take, false, IsTrue, IfSome, IfOk};
 ghost use Rattle.syntax.specs.Gaps.{is_blank, goes_on, in_comment, is_gap, gap_len};
 ghost use Rattle.syntax.specs.Covering.{Covers};
+ghost use Rattle.syntax.specs.Spelling.{Spells};
 
 use crate::fault::Fault;
 use std::alloc::Global;
@@ -111,7 +112,9 @@ pub fn spelling(kind: Kind) -> &'static str {
 }
 
 // The kind of a word: a keyword, a word that only MONA has, or a name.
-fn word_kind(word: &[u8]) -> Kind {
+fn word_kind(word: &[u8]) -> Kind
+    ensures { Spells result word.now }
+{
     match word {
         b"ws1s" => Kind::Ws1s,
         b"var1" => Kind::Var1,
@@ -201,7 +204,8 @@ fn name_end(rest: &[u8]) -> usize
 
 // The kind and the length of the sign that a text begins with.
 fn sign(rest: &[u8]) -> Option<(Kind, usize)>
-    ensures { IfSome result (λ r. (0 < r.1) × (r.1 ≤ length rest.now)) }
+    ensures within { IfSome result (λ r. (0 < r.1) × (r.1 ≤ length rest.now)) }
+    ensures spells { IfSome result (λ r. Spells r.0 (take r.1 rest.now)) }
 {
     match rest {
         [b'<', b'=', b'>', ..] => Some((Kind::Iff, 3)),
@@ -214,7 +218,9 @@ fn sign(rest: &[u8]) -> Option<(Kind, usize)>
     }
 }
 
-fn single_sign(b: u8) -> Option<Kind> {
+fn single_sign(b: u8) -> Option<Kind>
+    ensures { IfSome result (λ k. Spells k (b ∷ [])) }
+{
     match b {
         b'<' => Some(Kind::Less),
         b'>' => Some(Kind::Greater),
@@ -239,7 +245,8 @@ fn single_sign(b: u8) -> Option<Kind> {
 
 // The kind and the length of the token that a text begins with.
 fn front(rest: &[u8]) -> Option<(Kind, usize)>
-    ensures { IfSome result (λ r. (0 < r.1) × (r.1 ≤ length rest.now)) }
+    ensures within { IfSome result (λ r. (0 < r.1) × (r.1 ≤ length rest.now)) }
+    ensures spells { IfSome result (λ r. Spells r.0 (take r.1 rest.now)) }
 {
     let digits = digits_end(rest);
     if digits > 0 {

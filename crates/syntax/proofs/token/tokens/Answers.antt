@@ -12,5 +12,5 @@ loop-at-preserved c =
     record {
       within = search rules;
       covers = subst (λ (ts : List Token). Covers c.args.text.now 0 ts (c.loop-at.at + c.in-Some.len + c.gap.result)) (sym pushed)
-          (covers_push c.args.text.now 0 c.loop-at.all.items _ c.gap.result c.loop-at.invariant.covers (omega (arith, c.in-Some.ensures)) (search rules) (gap_of c.args.text.now (c.loop-at.at + c.in-Some.len) c.gap.result c.gap.ensures.gap));
+          (covers_push c.args.text.now 0 c.loop-at.all.items _ c.gap.result c.loop-at.invariant.covers (omega (arith, c.in-Some.ensures.within)) (search rules) (gap_of c.args.text.now (c.loop-at.at + c.in-Some.len) c.gap.result c.gap.ensures.gap));
     }
