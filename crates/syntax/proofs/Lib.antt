@@ -9,3 +9,4 @@ pub mod ExpressionLaws
 pub mod ItemsLaws
 pub mod ItemsAgain
 pub mod ParseLaws
+pub mod PrintedLaws

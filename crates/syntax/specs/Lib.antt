@@ -7,3 +7,4 @@ pub mod Parsing
 pub mod Grammar
 pub mod Views
 pub mod Items
+pub mod Printed

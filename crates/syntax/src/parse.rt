@@ -1,9 +1,10 @@
 // Reads a text: its tokens, and from these its items.
-ghost use Rattle.std.specs.Prelude.{◌≡◌, ℕ, Ok, List, IfOk, length, map};
+ghost use Rattle.std.specs.Prelude.{◌≡◌, ℕ, Bool, Ok, List, IfOk, length, map};
 ghost use Rattle.syntax.specs.Covering.{Covers};
 ghost use Rattle.syntax.specs.declared.token.Token.{Token};
 ghost use Rattle.syntax.specs.Views.{words, Gives};
 ghost use Rattle.syntax.specs.Items.{PlainItem, view_items, read_words, written_items, bare_item, AreItems};
+ghost use Rattle.syntax.specs.Printed.{text_item, AreTreeItems};
 
 use crate::expression::MOST_OPEN;
 use crate::fault::Fault;
@@ -31,13 +32,15 @@ fn most_open() -> u32
 /// The items that the tokens of a text are, or the first fault in them.
 ///
 /// What is read is what `read_words` gives; tokens that are written as items, with parentheses where they must or may stand, are read as these items,
-/// if at most 1,000 parts stand within one another, numbers are at most 1,000 and fewer than 2,000 expressions are open, one within the other.
+/// if at most 1,000 parts stand within one another, numbers are at most 1,000 and fewer than 2,000 expressions are open, one within the other. So the text
+/// of every tree of at most 1,000 parts within one another is read as this tree, with few parentheses or with all.
 ///
 /// # Errors
 ///
 /// The first fault, that something is too large, or that there is not enough memory.
 pub fn read_tokens(heap: Global, text: &[u8], tokens: &[Token]) -> Result<Vec<Item>, Fault>
     ensures gives { (c : ℕ) → c ≡ 2000 → Gives (λ v. view_items v.items) result (read_words (length tokens.now) c (words text.now tokens.now)) }
+    ensures printed { (all : Bool) (is : List PlainItem) → AreTreeItems is → words text.now tokens.now ≡ written_items (map (text_item all) is) → Gives (λ v. view_items v.items) result (Ok is) }
     ensures again { (is : List PlainItem) → AreItems is → words text.now tokens.now ≡ written_items is → Gives (λ v. view_items v.items) result (Ok (map bare_item is)) }
 {
     let source = Source {
