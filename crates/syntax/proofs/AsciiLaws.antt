@@ -1,6 +1,6 @@
 -- ASCII bytes are text.
-use Rattle.std.proofs.Common.{ℕ, zero, suc, ◌<◌, ◌≡◌, List, [], ◌∷◌, true, false, Bool, ◌&&◌, nat_lt, arith, rules, refl, sym}
-use Rattle.std.specs.Str.{IsAscii, IsUtf8}
+use Rattle.std.proofs.Common.{ℕ, zero, suc, ◌<◌, ◌≡◌, List, [], ◌∷◌, true, false, Bool, ◌&&◌, nat_lt, arith, rules, refl}
+use Rattle.std.specs.Str.{IsUtf8}
 use Rattle.std.proofs.lemmas.Str.{IsUtf8-from_ascii}
 use Rattle.std.specs.Prelude.{slice_index}
 use Rattle.syntax.specs.Parsing.{ascii}

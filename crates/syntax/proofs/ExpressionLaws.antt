@@ -1,5 +1,5 @@
 -- What an expression's loops keep, and what a list of expressions is as part of a tree.
-use Rattle.std.proofs.Common.{ℕ, zero, suc, ◌+◌, ◌-◌, ◌<◌, ◌≤◌, ◌≡◌, max, List, [], ◌∷◌, ◌++◌, true, false, Some, None, Result, Ok, Err, refl, sym, ap, ◌∙◌, arith, length, string_bytes, Vec, Global}
+use Rattle.std.proofs.Common.{ℕ, zero, suc, ◌-◌, ◌<◌, ◌≡◌, max, List, [], ◌∷◌, ◌++◌, true, false, Some, None, Result, Ok, Err, refl, sym, ap, ◌∙◌, arith, string_bytes, Vec, Global}
 use mathlib.Core.Former.{Count}
 use Rattle.trees.specs.declared.position.Span.{Span}
 use Rattle.trees.specs.declared.tree.Name.{Name}

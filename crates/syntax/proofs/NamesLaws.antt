@@ -1,5 +1,5 @@
 -- Names with commas between them, read one after the other.
-use Rattle.std.proofs.Common.{ℕ, zero, suc, ◌≡◌, ◌<◌, ◌≤◌, List, [], ◌∷◌, ◌++◌, true, false, Ok, Err, refl, sym, ap, ◌∙◌, arith, length, map, string_bytes}
+use Rattle.std.proofs.Common.{ℕ, zero, suc, ◌≡◌, ◌<◌, List, [], ◌∷◌, ◌++◌, true, false, Ok, Err, refl, sym, arith, string_bytes}
 use Rattle.std.proofs.lemmas.List.{map-append}
 use Rattle.syntax.specs.declared.token.Kind.TheVariants as kind
 use Rattle.trees.specs.declared.tree.Name.{Name}

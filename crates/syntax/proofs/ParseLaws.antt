@@ -1,12 +1,11 @@
 -- What a call gave, said of what is equal to it.
-use Rattle.std.proofs.Common.{◌≡◌, ℕ, Bool, List, [], ◌∷◌, Ok, Err, Result, IfOk, refl, sym, subst, ap, arith, length, map, suc, ◌∙◌, ◌≤◌}
-use Rattle.trees.specs.declared.tree.Item.{Item}
+use Rattle.std.proofs.Common.{◌≡◌, ℕ, Bool, List, [], ◌∷◌, Ok, Err, Result, IfOk, refl, sym, subst, ap, arith, length, map, ◌∙◌, ◌≤◌}
 use Rattle.syntax.specs.declared.fault.Fault.{Fault}
 use Rattle.syntax.specs.declared.token.Token.{Token}
 use Rattle.syntax.specs.Plain.{Word}
 use Rattle.syntax.specs.Parsing.{Stop}
 use Rattle.syntax.specs.Views.{words, Gives}
-use Rattle.syntax.specs.Items.{PlainItem, view_items, read_words, written_items, bare_item, AreItems}
+use Rattle.syntax.specs.Items.{PlainItem, read_words, written_items, bare_item, AreItems}
 use Rattle.syntax.specs.Printed.{text_item, AreTreeItems}
 use Rattle.syntax.proofs.ItemsAgain.{items_again}
 use Rattle.syntax.proofs.PrintedLaws.{items_are, bare_items_text}
@@ -28,7 +27,7 @@ read_written see r n most text ts is e le x w g =
     let l = words_length text ts in
     let m = ap length w in
     gives_same see r (read_words n most (words text ts)) (Ok (map bare_item is))
-      (ap (read_words n most) w ∙ items_again is n most x e (omega (arith, le, l, m))) g
+    (ap (read_words n most) w ∙ items_again is n most x e (omega (arith, le, l, m))) g
 
 -- what an answer is, where there is one
 pub found : {X Y : Type 0} (see : X → Y) (r : Result X Fault) (f : ℕ → Result Y Stop) → ((c : ℕ) → c ≡ 2000 → Gives see r (f c)) → IfOk r (λ v. (c : ℕ) → c ≡ 2000 → f c ≡ Ok (see v))

@@ -1,5 +1,5 @@
 -- The text of a tree is a text, without its parentheses the tree again, and not too large to be read.
-use Rattle.std.proofs.Common.{ℕ, zero, suc, ◌+◌, ◌-◌, ◌*◌, ◌/◌, ◌%◌, ◌<◌, ◌≤◌, ◌≡◌, ◌&&◌, ◌||◌, nat_lt, min, max, List, [], ◌∷◌, ◌++◌, map, Bool, true, false, ◌⊎◌, inl, inr, refl, sym, ap, ◌∙◌, arith, rules, length}
+use Rattle.std.proofs.Common.{ℕ, suc, ◌+◌, ◌-◌, ◌*◌, ◌/◌, ◌%◌, ◌<◌, ◌≤◌, ◌≡◌, min, List, [], ◌∷◌, ◌++◌, map, Bool, true, false, ◌⊎◌, inl, inr, refl, ap, ◌∙◌, arith}
 use Rattle.std.specs.Prelude.{decimal}
 use Rattle.std.proofs.lemmas.Fmt.{decimal_step, decimal_digit}
 use Rattle.std.proofs.lemmas.Bool.{cases_lt}
@@ -7,7 +7,7 @@ use Rattle.trees.specs.declared.tree.Unary.TheVariants as unary
 use Rattle.trees.specs.declared.tree.Binary.{Binary}
 use Rattle.trees.specs.declared.tree.Binary.TheVariants as binary
 use Rattle.syntax.specs.Plain.{Plain, yes, no, nowhere, number, digits, named, paren, listed, prefixed, joined, bound, call, Plains, none, more}
-use Rattle.syntax.specs.Parsing.{level_of, right_of, value, depth, depths, MOST}
+use Rattle.syntax.specs.Parsing.{level_of, right_of, value, depth, depths}
 use Rattle.syntax.specs.Grammar.{bare, bares, spine, grab, IsText, AreTexts, opens, opens_each}
 use Rattle.syntax.specs.Items.{PlainItem, free, predicate, assumed, claimed, bare_item, IsItem, AreItems}
 use Rattle.syntax.specs.Printed.{level, left_of, enclosed, within_parens, text, texts, IsTree, AreTrees, text_item, IsTreeItem, AreTreeItems}
@@ -159,9 +159,13 @@ mutual
   is_text (prefixed unary.IsEmpty t) all x = is_text t all x
   is_text (joined b s t) all x =
       let l = left_at_least b in
-      let i = spine_operand all (left_of b) s (omega (arith, l.2)) in
-      (is_text_in (within_parens all (left_of b) s) (text all s) (is_text s all x.0), omega (arith, i, l.0), leaves all b s,
-       is_text_in (within_parens all (right_of b) t) (text all t) (is_text t all x.1), spine_operand all (right_of b) t (right_at_most b))
+      let i = spine_operand all (left_of b) s (omega (arith, l.2)) in (
+        is_text_in (within_parens all (left_of b) s) (text all s) (is_text s all x.0),
+        omega (arith, i, l.0),
+        leaves all b s,
+        is_text_in (within_parens all (right_of b) t) (text all t) (is_text t all x.1),
+        spine_operand all (right_of b) t (right_at_most b),
+      )
   is_text (bound q sort xs t) all x = (x.0, is_text_in (within_parens all 0 t) (text all t) (is_text t all x.1))
   is_text (call f ts) all x = (x.0, are_texts ts all x.1)
 

@@ -1,15 +1,12 @@
 -- Signs and names as they are written, and how long what is written is.
-use Rattle.std.proofs.Common.{ℕ, zero, suc, ◌+◌, ◌<◌, ◌≤◌, ◌≡◌, min, max, List, [], ◌∷◌, ◌++◌, Bool, true, false, length, Option, Some, None, Result, Ok, Err, refl, sym, ap, ◌∙◌, arith, rules, append_assoc, append-nil, nat_lt, nat_le, if◌then◌else◌}
-use Rattle.syntax.specs.declared.token.Kind.{Kind}
+use Rattle.std.proofs.Common.{ℕ, zero, suc, ◌<◌, ◌≤◌, ◌≡◌, List, [], ◌∷◌, ◌++◌, true, false, length, Option, Some, None, Ok, refl, ap, ◌∙◌, arith, append_assoc, append-nil, nat_lt, nat_le}
 use Rattle.syntax.specs.declared.token.Kind.TheVariants as kind
 use Rattle.trees.specs.declared.tree.Unary.TheVariants as unary
 use Rattle.trees.specs.declared.tree.Binary.{Binary}
 use Rattle.trees.specs.declared.tree.Binary.TheVariants as binary
-use Rattle.trees.specs.declared.tree.Sort.TheVariants.{Place, Set}
-use Rattle.trees.specs.declared.tree.Quantifier.TheVariants as quantifier
-use Rattle.syntax.specs.Plain.{Word, word, Plain, yes, no, nowhere, number, digits, named, paren, listed, prefixed, joined, bound, call, Plains, none, more, sign_of, comma, colon, close, close_set, names, names_more, written, list, list_more}
-use Rattle.syntax.specs.Parsing.{Reader, ◌>>=◌, level_of, right_of, binary_of, if_tight, operator, begins, more_names, names_at, more_items, operand, climb, parse, depth, depths, MOST, ascii, push}
-use Rattle.syntax.specs.Grammar.{bare, bares, spine, grab, AreAscii, AreNames, IsText, AreTexts, opens, opens_each}
+use Rattle.syntax.specs.Plain.{Word, word, Plain, number, paren, listed, prefixed, joined, bound, call, Plains, none, more, sign_of, colon, close, close_set, names, names_more, written, list, list_more}
+use Rattle.syntax.specs.Parsing.{level_of, binary_of, if_tight, operator, begins, more_names, names_at, push}
+use Rattle.syntax.specs.Grammar.{AreAscii, AreNames}
 
 -- behind an expression stands no operator that it would take, and nothing that makes it a call
 abbrev pub Stops : ℕ → List Word → Type 0

@@ -9,7 +9,7 @@ use Rattle.trees.specs.declared.tree.Item.{Item}
 use Rattle.trees.specs.declared.tree.Item.TheVariants.{Free, Predicate as Defined, Assert, Formula}
 use Rattle.syntax.specs.Plain.{Word, word, Plain, names, written, semicolon, comma, open_, close}
 use Rattle.syntax.specs.Parsing.{Stop, wrong, Read, Reader, ◌>>=◌, begins, behind, tail, ascii, name, names_at, parse, depth, MOST}
-use Rattle.syntax.specs.Grammar.{bare, AreAscii, AreNames, IsText, opens}
+use Rattle.syntax.specs.Grammar.{bare, AreNames, IsText, opens}
 use Rattle.syntax.specs.Views.{names_of, view}
 
 -- an item without the places of its parts in the text

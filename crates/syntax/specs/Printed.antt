@@ -1,9 +1,8 @@
 -- The text of a tree: as few parentheses as there have to be, or around every part that has operands, and numbers in digits.
-use Rattle.std.specs.Prelude.{ℕ, suc, ◌≡◌, ◌≤◌, ◌&&◌, ◌||◌, Bool, true, false, nat_lt, decimal, List, [], ◌∷◌}
+use Rattle.std.specs.Prelude.{ℕ, ◌≡◌, ◌≤◌, ◌&&◌, ◌||◌, Bool, true, false, nat_lt, decimal, List, [], ◌∷◌}
 use Rattle.trees.specs.declared.tree.Unary.TheVariants as unary
 use Rattle.trees.specs.declared.tree.Binary.{Binary}
 use Rattle.trees.specs.declared.tree.Binary.TheVariants as binary
-use Rattle.trees.specs.declared.tree.Sort.{Sort}
 use Rattle.syntax.specs.Plain.{Plain, yes, no, nowhere, number, digits, named, paren, listed, prefixed, joined, bound, call, Plains, none, more}
 use Rattle.syntax.specs.Parsing.{level_of, right_of, depth, MOST, ascii}
 use Rattle.syntax.specs.Grammar.{AreNames}

@@ -127,12 +127,7 @@ fn free<'a>(
     ensures less { IfOk result (λ r. length r.1.now < length tokens.now) }
 {
     let (names, rest) = names(source, tokens)?;
-    let (_, rest) = token(
-        source,
-        rest,
-        Kind::Semicolon,
-        Wanted::More(Kind::Semicolon),
-    )?;
+    let (_, rest) = token(source, rest, Kind::Semicolon, Wanted::More(Kind::Semicolon))?;
     Ok((Item::Free(sort, names), rest))
 }
 

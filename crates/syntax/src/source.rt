@@ -122,10 +122,7 @@ pub fn name<'a>(source: &Source<'_>, tokens: &'a [Token]) -> Result<(Name, &'a [
                 None => Err(Fault::Expected(Wanted::Token(Kind::Name), token.span)),
             }
         }
-        _ => Err(Fault::Expected(
-            Wanted::Token(Kind::Name),
-            span(source, tokens),
-        )),
+        _ => Err(Fault::Expected(Wanted::Token(Kind::Name), span(source, tokens))),
     }
 }
 

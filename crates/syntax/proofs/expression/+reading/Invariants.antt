@@ -1,4 +1,4 @@
-use Rattle.std.proofs.Common.{◌≡◌, ℕ, ◌<◌, ◌≤◌, length, ◌-◌, ◌+◌, ◌*◌}
+use Rattle.std.proofs.Common.{◌≡◌, ℕ, ◌<◌, ◌≤◌, length, ◌+◌, ◌*◌}
 use Rattle.syntax.specs.Parsing.{parse, climb, items, more_items, up_to, depth, depths}
 use Rattle.syntax.specs.Views.{words, view, view_all}
 use Rattle.syntax.proofs.expression.+reading.Given as goal

@@ -21,7 +21,7 @@ returns-in_err-word-clause-gives c =
     let old = c.loop-behind.invariant.steps in
     let text = c.args.source.now.text.now in
     rw (r.1, r.2) (fails_on c.in_err-word.field-0.0 _ _ c.in_err-word.ensures.gives
-      (λ s h. old.2 ∙ parameter_fails old.0 c.loop-behind.sort (view_parameters c.loop-behind.all.items) (words text c.loop-behind.rest.now) (words text c.in-Some.behind.now) (words text c.sort_or-other.result.1.now) s (omega (arith, old.1, c.in-Some.ensures.less)) c.in-Some.ensures.begins c.in-Some.ensures.rest c.sort_or-other.ensures.rest h))
+    (λ s h. old.2 ∙ parameter_fails old.0 c.loop-behind.sort (view_parameters c.loop-behind.all.items) (words text c.loop-behind.rest.now) (words text c.in-Some.behind.now) (words text c.sort_or-other.result.1.now) s (omega (arith, old.1, c.in-Some.ensures.less)) c.in-Some.ensures.begins c.in-Some.ensures.rest c.sort_or-other.ensures.rest h))
 
 pub loop-behind-preserved : goal.loop-behind-preserved
 loop-behind-preserved c =
@@ -29,7 +29,7 @@ loop-behind-preserved c =
     let text = c.args.source.now.text.now in
     let longer = ap view_parameters c.in_ok-push-2.ensures.items ∙ parameters_push c.loop-behind.all.items _ in
     let next = next_parameter old.0 c.loop-behind.sort c.sort_or-other.result.0 (view_parameters c.loop-behind.all.items) (view_parameters c.push-in-Some.new.self.items) (words text c.loop-behind.rest.now) (words text c.in-Some.behind.now) (words text c.sort_or-other.result.1.now) (words text c.in_ok-word.more.now) _
-          (omega (arith, old.1, c.in-Some.ensures.less)) c.in-Some.ensures.begins c.in-Some.ensures.rest c.sort_or-other.ensures.sort c.sort_or-other.ensures.rest c.in_ok-word.ensures.gives longer in
+    (omega (arith, old.1, c.in-Some.ensures.less)) c.in-Some.ensures.begins c.in-Some.ensures.rest c.sort_or-other.ensures.sort c.sort_or-other.ensures.rest c.in_ok-word.ensures.gives longer in
     record {
       steps = (next.0, omega (arith, next.1, old.1, c.in-Some.ensures.less, c.sort_or-other.ensures.less, c.in_ok-word.ensures.less), old.2 ∙ next.2);
       less = omega (arith, c.loop-behind.invariant.less, c.in-Some.ensures.less, c.sort_or-other.ensures.less, c.in_ok-word.ensures.less);

@@ -1,4 +1,4 @@
-use Rattle.std.proofs.Common.{◌≡◌, ◌≤◌, ℕ, List, [], ◌∷◌, length}
+use Rattle.std.proofs.Common.{◌≡◌, ◌≤◌, ℕ, [], ◌∷◌, length}
 use Rattle.syntax.specs.Views.{words}
 use Rattle.syntax.specs.Items.{more_parameters, view_parameter, view_parameters}
 use Rattle.syntax.proofs.items.further.Given as goal

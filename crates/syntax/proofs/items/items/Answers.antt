@@ -1,4 +1,4 @@
-use Rattle.std.proofs.Common.{arith, rules, ◌≡◌, ◌++◌, ◌∷◌, [], List, ap, sym, ◌∙◌, ◌<◌, length}
+use Rattle.std.proofs.Common.{arith, rules, ap, ◌∙◌, ◌<◌, length}
 use Rattle.std.proofs.lemmas.Result.{err_from_is_err_and}
 use Rattle.syntax.specs.Parsing.{parse}
 use Rattle.syntax.specs.Views.{words}
@@ -23,7 +23,7 @@ returns-in_err-read c =
     let text = c.args.source.now.text.now in
     let some : 0 < length c.loop-rest.rest.now = search rules in
     rw (r.1, r.2) (fails_on c.in_err-read.field-0.0 _ _ c.in_err-read.ensures.gives
-      (λ s h. old.2 ∙ read_fails (parse n c.args.source.now.open) n old.0 (view_items c.loop-rest.all.items) text c.loop-rest.rest.now s old.1 some h))
+    (λ s h. old.2 ∙ read_fails (parse n c.args.source.now.open) n old.0 (view_items c.loop-rest.all.items) text c.loop-rest.rest.now s old.1 some h))
 
 pub loop-rest-preserved : goal.loop-rest-preserved
 loop-rest-preserved c =

@@ -1,4 +1,4 @@
-use Rattle.std.proofs.Common.{arith, ◌≤◌, length}
+use Rattle.std.proofs.Common.{arith, length}
 use Rattle.syntax.specs.Views.{words}
 use Rattle.syntax.specs.Items.{view_items}
 use Rattle.syntax.proofs.ParseLaws.{at_most, read_written, read_printed}

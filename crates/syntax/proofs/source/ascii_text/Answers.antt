@@ -1,4 +1,4 @@
-use Rattle.std.proofs.Common.{◌≡◌, arith, true, sym, ◌∙◌, rules}
+use Rattle.std.proofs.Common.{◌≡◌, true, sym, ◌∙◌, rules}
 use Rattle.syntax.specs.Parsing.{ascii}
 use Rattle.syntax.proofs.AsciiLaws as laws
 use Rattle.syntax.proofs.source.ascii_text.Goals as goal

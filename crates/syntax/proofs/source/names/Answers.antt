@@ -1,4 +1,4 @@
-use Rattle.std.proofs.Common.{rules, arith, ◌≡◌, ◌++◌, ◌∷◌, [], List, ap, ◌∙◌}
+use Rattle.std.proofs.Common.{arith, ◌++◌, ◌∷◌, [], List, ap, ◌∙◌}
 use Rattle.trees.specs.declared.tree.Name.{Name}
 use Rattle.syntax.specs.Views.{words, names_of}
 use Rattle.syntax.proofs.NamesLaws.{names_of_more, first_name, next_name}
@@ -7,9 +7,12 @@ use Rattle.syntax.proofs.source.names.Goals as goal
 pub loop-behind-init : goal.loop-behind-init
 loop-behind-init c =
     record {
-      steps = (c.args.source.now.count, omega (arith, c.requires.known, c.in_ok-first.ensures.less),
+      steps = (
+        c.args.source.now.count,
+        omega (arith, c.requires.known, c.in_ok-first.ensures.less),
         first_name c.args.source.now.count (words c.args.source.now.text.now c.args.tokens.now) (words c.args.source.now.text.now c.in_ok-first.rest.now) _ _ c.in_ok-first.ensures.gives
-          (ap names_of c.in_ok-push.ensures.items ∙ ap (λ (xs : List Name). names_of (xs ++ c.in_ok-first.first ∷ [])) c.new-all.ensures.items));
+            (ap names_of c.in_ok-push.ensures.items ∙ ap (λ (xs : List Name). names_of (xs ++ c.in_ok-first.first ∷ [])) c.new-all.ensures.items),
+      );
       less = omega (arith, c.in_ok-first.ensures.less);
     }
 
