@@ -1,2 +1,12 @@
--- Lemmas on the tokens of a text.
-pub mod RisingLaws
+-- Lemmas on the tokens of a text and on reading them.
+pub mod GapsLaws
+pub mod CoveringLaws
+pub mod AsciiLaws
+pub mod NamesLaws
+pub mod WrittenLaws
+pub mod RoundTrip
+pub mod ExpressionLaws
+pub mod ItemsLaws
+pub mod ItemsAgain
+pub mod ParseLaws
+pub mod PrintedLaws

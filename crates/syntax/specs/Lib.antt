@@ -1,3 +1,10 @@
 -- What the contracts of the readable form's text cite.
-pub mod Reading
-pub mod Rising
+pub mod Gaps
+pub mod Spelling
+pub mod Covering
+pub mod Plain
+pub mod Parsing
+pub mod Grammar
+pub mod Views
+pub mod Items
+pub mod Printed

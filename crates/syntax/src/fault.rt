@@ -1,4 +1,7 @@
 // What is wrong with a text: where it stands, what was expected and what stands there.
+ghost use Rattle.std.specs.Prelude.{◌≡◌};
+ghost use Rattle.syntax.specs.declared.fault.Fault.TheVariants.{Memory};
+
 use crate::token::{Kind, foreign_reason, spelling};
 use std::alloc::{AllocError, AllocFailed, Global};
 use std::str::from_utf8;
@@ -25,12 +28,16 @@ pub enum Fault {
 }
 
 impl From<AllocError> for Fault {
+    ghost from_gives = { λ _ e. e ≡ Memory };
+
     fn from(_error: AllocError) -> Fault {
         Fault::Memory
     }
 }
 
 impl<T: Drop> From<AllocFailed<T>> for Fault {
+    ghost from_gives = { λ _ e. e ≡ Memory };
+
     fn from(_error: AllocFailed<T>) -> Fault {
         Fault::Memory
     }

@@ -1,6 +1,8 @@
 // Operators as they are written, and how tight they bind.
-ghost use Rattle.std.specs.Prelude.{ℕ, ◌≤◌};
+ghost use Rattle.std.specs.Prelude.{ℕ, ◌≡◌, ◌≤◌};
+ghost use Rattle.syntax.specs.Parsing.{level_of, right_of, binary_of};
 
+use crate::token::Kind;
 use trees::tree::Binary;
 
 // How tight an operator binds: an operand binds tighter than the operators beside it, or stands in parentheses. `from` is how tight the right operand has to bind.
@@ -18,7 +20,9 @@ pub const EXTREME: u8 = 8;
 pub const CLOSED: u8 = 13;
 
 pub fn tightness_of(binary: Binary) -> Tightness
-    ensures { result.level ≤ 12 }
+    ensures small { result.level ≤ 12 }
+    ensures level { result.level ≡ level_of binary }
+    ensures right { result.right ≡ right_of binary }
 {
     match binary {
         Binary::Iff => Tightness { level: 1, right: 1 },
@@ -71,5 +75,32 @@ pub fn sign(binary: Binary) -> &'static str {
         Binary::Without => "\\",
         Binary::Plus => "+",
         Binary::Minus => "-",
+    }
+}
+
+// The operator that a kind of token is, if it is one.
+pub fn binary(kind: Kind) -> Option<Binary>
+    ensures { result ≡ binary_of kind }
+{
+    match kind {
+        Kind::Iff => Some(Binary::Iff),
+        Kind::Implies => Some(Binary::Implies),
+        Kind::Or => Some(Binary::Or),
+        Kind::And => Some(Binary::And),
+        Kind::In => Some(Binary::In),
+        Kind::NotIn => Some(Binary::NotIn),
+        Kind::Sub => Some(Binary::Sub),
+        Kind::Equal => Some(Binary::Equal),
+        Kind::Differs => Some(Binary::Differs),
+        Kind::Less => Some(Binary::Less),
+        Kind::AtMost => Some(Binary::AtMost),
+        Kind::Greater => Some(Binary::Greater),
+        Kind::AtLeast => Some(Binary::AtLeast),
+        Kind::Union => Some(Binary::Union),
+        Kind::Inter => Some(Binary::Inter),
+        Kind::Without => Some(Binary::Without),
+        Kind::Plus => Some(Binary::Plus),
+        Kind::Minus => Some(Binary::Minus),
+        _ => None,
     }
 }

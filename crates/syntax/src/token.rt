@@ -1,6 +1,8 @@
 // The tokens of a text. Blanks, and comments from `#` to the end of the line, stand between them.
-ghost use Rattle.std.specs.Prelude.{◌≡◌, ℕ, ◌+◌, ◌<◌, ◌≤◌, length, IfSome, IfOk};
-ghost use Rattle.syntax.specs.Rising.{Rising};
+ghost use Rattle.std.specs.Prelude.{◌≡◌, ℕ, ◌+◌, ◌<◌, ◌≤◌, ◌∷◌, [], length, take, false, IsTrue, IfSome, IfOk};
+ghost use Rattle.syntax.specs.Gaps.{is_blank, goes_on, in_comment, is_gap, gap_len};
+ghost use Rattle.syntax.specs.Covering.{Covers};
+ghost use Rattle.syntax.specs.Spelling.{Spells};
 
 use crate::fault::Fault;
 use std::alloc::Global;
@@ -110,7 +112,9 @@ pub fn spelling(kind: Kind) -> &'static str {
 }
 
 // The kind of a word: a keyword, a word that only MONA has, or a name.
-fn word_kind(word: &[u8]) -> Kind {
+fn word_kind(word: &[u8]) -> Kind
+    ensures { Spells result word.now }
+{
     match word {
         b"ws1s" => Kind::Ws1s,
         b"var1" => Kind::Var1,
@@ -200,7 +204,8 @@ fn name_end(rest: &[u8]) -> usize
 
 // The kind and the length of the sign that a text begins with.
 fn sign(rest: &[u8]) -> Option<(Kind, usize)>
-    ensures { IfSome result (λ r. (0 < r.1) × (r.1 ≤ length rest.now)) }
+    ensures within { IfSome result (λ r. (0 < r.1) × (r.1 ≤ length rest.now)) }
+    ensures spells { IfSome result (λ r. Spells r.0 (take r.1 rest.now)) }
 {
     match rest {
         [b'<', b'=', b'>', ..] => Some((Kind::Iff, 3)),
@@ -213,7 +218,9 @@ fn sign(rest: &[u8]) -> Option<(Kind, usize)>
     }
 }
 
-fn single_sign(b: u8) -> Option<Kind> {
+fn single_sign(b: u8) -> Option<Kind>
+    ensures { IfSome result (λ k. Spells k (b ∷ [])) }
+{
     match b {
         b'<' => Some(Kind::Less),
         b'>' => Some(Kind::Greater),
@@ -238,7 +245,8 @@ fn single_sign(b: u8) -> Option<Kind> {
 
 // The kind and the length of the token that a text begins with.
 fn front(rest: &[u8]) -> Option<(Kind, usize)>
-    ensures { IfSome result (λ r. (0 < r.1) × (r.1 ≤ length rest.now)) }
+    ensures within { IfSome result (λ r. (0 < r.1) × (r.1 ≤ length rest.now)) }
+    ensures spells { IfSome result (λ r. Spells r.0 (take r.1 rest.now)) }
 {
     let digits = digits_end(rest);
     if digits > 0 {
@@ -251,30 +259,65 @@ fn front(rest: &[u8]) -> Option<(Kind, usize)>
     sign(rest)
 }
 
-// How many bytes at the front of a text are blanks and comments.
-fn gap(rest: &[u8]) -> usize
-    ensures { result ≤ length rest.now }
+// Whether a byte goes on with what stands between tokens: within a comment any byte does, outside a blank and the sign of a comment.
+fn goes_on(comment: bool, b: u8) -> bool
+    ensures { result ≡ goes_on comment b }
 {
-    let mut comment = false;
-    for (i, b) in rest.iter().enumerate() {
-        if *b == b'\n' {
-            comment = false;
-        } else if *b == b'#' {
-            comment = true;
-        } else if !comment && !is_blank(*b) {
-            return i;
-        }
-    }
-    rest.len()
+    comment || is_blank(b) || b == b'#'
 }
 
-fn is_blank(b: u8) -> bool {
+// Whether a comment goes on behind a byte: it begins with its sign and ends with its line.
+fn in_comment(comment: bool, b: u8) -> bool
+    ensures { result ≡ in_comment comment b }
+{
+    if b == b'\n' {
+        false
+    } else {
+        comment || b == b'#'
+    }
+}
+
+// How many bytes at the front of a text are blanks and comments.
+fn gap(bytes: &[u8]) -> usize
+    ensures within { result ≤ length bytes.now }
+    ensures gap { IsTrue (is_gap (take result bytes.now)) }
+{
+    let count = blanks(bytes);
+    count
+}
+
+// The same, counted.
+fn blanks(bytes: &[u8]) -> usize
+    ensures count { result ≡ gap_len false bytes.now }
+    ensures within { result ≤ length bytes.now }
+{
+    let mut comment = false;
+    let mut count = 0;
+    let mut rest = bytes;
+    while let [b, more @ ..] = rest {
+        if !goes_on(comment, *b) {
+            return count;
+        }
+        comment = in_comment(comment, *b);
+        count += 1;
+        rest = more;
+    }
+    count
+}
+
+fn is_blank(b: u8) -> bool
+    ensures { result ≡ is_blank b }
+{
     b == b' ' || b == b'\t' || b == b'\r' || b == b'\n'
 }
 
-// The tokens of a text, or its first byte with which no token begins.
+/// The tokens of a text, in their order: between them, before the first and behind the last stand blanks and comments only.
+///
+/// # Errors
+///
+/// The first byte with which no token begins, or that there is not enough memory.
 pub fn tokens(heap: Global, text: &[u8]) -> Result<Vec<Token>, Fault>
-    ensures { IfOk result (λ all. Rising 0 all.items (length text.now)) }
+    ensures { IfOk result (λ all. Covers text.now 0 all.items (length text.now)) }
 {
     let mut all = Vec::new(heap);
     let mut at = gap(text);

@@ -1,0 +1,392 @@
+// Reads expressions. Each function reads what the tokens begin with, and gives it with the tokens behind it.
+// An expression is an operand and the operators behind it, as long as they bind tight enough; what stands right of an operator is an expression whose
+// operators bind tighter. A quantifier and `~` take as much behind them as they can.
+ghost use Rattle.std.specs.Prelude.{◌≡◌, ℕ, ◌+◌, ◌<◌, ◌≤◌, ◌∷◌, length, max, IfOk, string_bytes};
+ghost use Rattle.syntax.specs.declared.token.Kind.TheVariants as kind;
+ghost use Rattle.syntax.specs.Plain.{joined, bound, listed, call, none};
+ghost use Rattle.syntax.specs.Parsing.{parse, operand, operand_of, prefix, quantified, set_at, items, named_at, arguments, paren_at, empty_at, within, lowest_of, depth, depths};
+ghost use Rattle.syntax.specs.Views.{words, Gives, view, view_all};
+
+use crate::fault::{Fault, Wanted};
+use crate::operators::{EXTREME, NOT, tightness_of};
+use crate::source::{Source, front, name, names, number, operator, span, token};
+use crate::token::{Kind, Token};
+use trees::position::Span;
+use trees::tree::{Binary, Expr, Name, Quantifier, Sort, Unary};
+
+// How many parts may stand within one another.
+pub const MOST_DEPTH: u32 = 1000;
+// How many expressions may be open, one within the other: a part takes one, and so do parentheses.
+pub const MOST_OPEN: u32 = 2000;
+
+// An expression that was read, and how many parts of it stand within one another.
+#[derive(Drop)]
+pub struct Part {
+    pub expr: Expr,
+    pub depth: u32,
+}
+
+// A tree around parts of a depth, if not too many stand within one another.
+fn within(at: Span, expr: Expr, inside: u32) -> Result<Part, Fault>
+    requires inside { depth (view expr) ≡ inside + 1 }
+    ensures gives { Gives (λ p. view p.expr) result (within (view expr)) }
+    ensures depth { IfOk result (λ p. p.depth ≡ depth (view p.expr)) }
+{
+    if inside >= MOST_DEPTH {
+        return Err(Fault::Deep(at));
+    }
+    Ok(Part {
+        expr,
+        depth: inside + 1,
+    })
+}
+
+// An expression whose operators bind at least as tight as `lowest`.
+#[cycle(reading)]
+pub fn expression<'a>(
+    source: &Source<'_>,
+    tokens: &'a [Token],
+    calls: u32,
+    lowest: u8,
+) -> Result<(Part, &'a [Token]), Fault>
+    requires known { length tokens.now ≤ source.now.count }
+    ensures gives { Gives (λ r. (view r.0.expr, words source.now.text.now r.1.now)) result (parse source.now.count calls lowest (words source.now.text.now tokens.now)) }
+    ensures depth { IfOk result (λ r. r.0.depth ≡ depth (view r.0.expr)) }
+    ensures less { IfOk result (λ r. length r.1.now < length tokens.now) }
+{
+    if calls == 0 {
+        return Err(Fault::Deep(span(source, tokens)));
+    }
+    let fewer = calls - 1;
+    let (mut left, mut rest) = operand(source, tokens, fewer)?;
+    while let Some((binary, behind)) = operator(source, rest, lowest) {
+        let (right, more) = expression(source, behind, fewer, tightness_of(binary).right)?;
+        left = joined(source, binary, left, right, more)?;
+        rest = more;
+    }
+    Ok((left, rest))
+}
+
+// An operator with what stands left and right of it; `behind` is what follows.
+fn joined(
+    source: &Source<'_>,
+    binary: Binary,
+    left: Part,
+    right: Part,
+    behind: &[Token],
+) -> Result<Part, Fault>
+    requires left { left.depth ≡ depth (view left.expr) }
+    requires right { right.depth ≡ depth (view right.expr) }
+    ensures gives { Gives (λ p. view p.expr) result (within (joined binary (view left.expr) (view right.expr))) }
+    ensures depth { IfOk result (λ p. p.depth ≡ depth (view p.expr)) }
+{
+    let inside = left.depth.max(right.depth);
+    let place = left.expr.span().to(right.expr.span());
+    let first = Box::new(source.heap, left.expr)?;
+    let second = Box::new(source.heap, right.expr)?;
+    within(
+        span(source, behind),
+        Expr::Binary(binary, first, second, place),
+        inside,
+    )
+}
+
+// A set that lists places.
+fn set(all: Vec<Expr>, place: Span) -> Expr
+    ensures { view result ≡ listed (view_all all.items) }
+{
+    Expr::Listed(all, place)
+}
+
+// A predicate with its arguments.
+fn called(name: Name, all: Vec<Expr>, place: Span) -> Expr
+    ensures { view result ≡ call (string_bytes name.text) (view_all all.items) }
+{
+    Expr::Call(name, all, place)
+}
+
+// A predicate without arguments.
+fn called_alone(source: &Source<'_>, name: Name, place: Span) -> Part
+    ensures expr { view result.expr ≡ call (string_bytes name.text) none }
+    ensures depth { result.depth ≡ 1 }
+{
+    let none = Vec::new(source.heap);
+    Part {
+        expr: called(name, none, place),
+        depth: 1,
+    }
+}
+
+// Expressions that were read, how many parts of one stand within one another, and where the sign behind them stands.
+#[derive(Drop)]
+struct Listing {
+    all: Vec<Expr>,
+    depth: u32,
+    close: Span,
+}
+
+// A set that lists places, from the sign at `at` on.
+fn set_of(at: Span, list: Listing) -> Result<Part, Fault>
+    requires deep { list.depth ≡ depths (view_all list.all.items) }
+    ensures gives { Gives (λ p. view p.expr) result (within (listed (view_all list.all.items))) }
+    ensures depth { IfOk result (λ p. p.depth ≡ depth (view p.expr)) }
+{
+    let place = at.to(list.close);
+    within(at, set(list.all, place), list.depth)
+}
+
+// A predicate with these arguments.
+fn call_of(name: Name, list: Listing) -> Result<Part, Fault>
+    requires deep { list.depth ≡ depths (view_all list.all.items) }
+    ensures gives { Gives (λ p. view p.expr) result (within (call (string_bytes name.text) (view_all list.all.items))) }
+    ensures depth { IfOk result (λ p. p.depth ≡ depth (view p.expr)) }
+{
+    let at = name.span;
+    let place = at.to(list.close);
+    within(at, called(name, list.all, place), list.depth)
+}
+
+// What an operator stands between.
+#[cycle(reading)]
+fn operand<'a>(
+    source: &Source<'_>,
+    tokens: &'a [Token],
+    calls: u32,
+) -> Result<(Part, &'a [Token]), Fault>
+    requires known { length tokens.now ≤ source.now.count }
+    ensures gives { Gives (λ r. (view r.0.expr, words source.now.text.now r.1.now)) result (operand (parse source.now.count calls) source.now.count (words source.now.text.now tokens.now)) }
+    ensures depth { IfOk result (λ r. r.0.depth ≡ depth (view r.0.expr)) }
+    ensures less { IfOk result (λ r. length r.1.now < length tokens.now) }
+{
+    let [first, rest @ ..] = tokens else {
+        return Err(Fault::Expected(Wanted::Operand, span(source, tokens)));
+    };
+    let at = first.span;
+    match first.kind {
+        Kind::Not => prefix(source, at, rest, calls, Unary::Not),
+        Kind::Min => prefix(source, at, rest, calls, Unary::Min),
+        Kind::Max => prefix(source, at, rest, calls, Unary::Max),
+        Kind::Ex1 => bound(source, at, rest, calls, (Quantifier::Some, Sort::Place)),
+        Kind::Ex2 => bound(source, at, rest, calls, (Quantifier::Some, Sort::Set)),
+        Kind::All1 => bound(source, at, rest, calls, (Quantifier::All, Sort::Place)),
+        Kind::All2 => bound(source, at, rest, calls, (Quantifier::All, Sort::Set)),
+        Kind::Open => {
+            let (inside, _, rest) = enclosed(source, rest, calls)?;
+            Ok((inside, rest))
+        }
+        Kind::OpenSet => listed(source, at, rest, calls),
+        Kind::Name => {
+            let (name, rest) = name(source, tokens)?;
+            named(source, name, rest, calls)
+        }
+        Kind::Empty => empty(source, at, rest, calls),
+        Kind::True => Ok((leaf(Expr::True(at)), rest)),
+        Kind::False => Ok((leaf(Expr::False(at)), rest)),
+        Kind::Number => Ok((leaf(Expr::Number(number(source, *first)?, at)), rest)),
+        _ => Err(Fault::Expected(Wanted::Operand, at)),
+    }
+}
+
+// An expression without parts.
+fn leaf(expr: Expr) -> Part
+    requires { depth (view expr) ≡ 1 }
+    ensures expr { result.expr ≡ expr }
+    ensures depth { result.depth ≡ 1 }
+{
+    Part { expr, depth: 1 }
+}
+
+// How tight the operand of a sign or word before it has to bind.
+fn lowest(unary: Unary) -> u8
+    ensures { result ≡ lowest_of unary }
+{
+    match unary {
+        Unary::Not => NOT + 1,
+        _ => EXTREME + 1,
+    }
+}
+
+// A sign or word, which stands at `at`, before its operand.
+#[cycle(reading)]
+fn prefix<'a>(
+    source: &Source<'_>,
+    at: Span,
+    tokens: &'a [Token],
+    calls: u32,
+    unary: Unary,
+) -> Result<(Part, &'a [Token]), Fault>
+    requires known { length tokens.now ≤ source.now.count }
+    ensures gives { Gives (λ r. (view r.0.expr, words source.now.text.now r.1.now)) result (prefix (parse source.now.count calls) unary (lowest_of unary) (words source.now.text.now tokens.now)) }
+    ensures depth { IfOk result (λ r. r.0.depth ≡ depth (view r.0.expr)) }
+    ensures less { IfOk result (λ r. length r.1.now < length tokens.now) }
+{
+    let (inside, rest) = expression(source, tokens, calls, lowest(unary))?;
+    let place = at.to(inside.expr.span());
+    let operand = Box::new(source.heap, inside.expr)?;
+    let whole = within(at, Expr::Unary(unary, operand, place), inside.depth)?;
+    Ok((whole, rest))
+}
+
+// What stands behind a quantifier: its names, and what is said of them.
+#[cycle(reading)]
+fn bound<'a>(
+    source: &Source<'_>,
+    at: Span,
+    tokens: &'a [Token],
+    calls: u32,
+    quantifier: (Quantifier, Sort),
+) -> Result<(Part, &'a [Token]), Fault>
+    requires known { length tokens.now ≤ source.now.count }
+    ensures gives { Gives (λ r. (view r.0.expr, words source.now.text.now r.1.now)) result (quantified (parse source.now.count calls) source.now.count quantifier.0 quantifier.1 (words source.now.text.now tokens.now)) }
+    ensures depth { IfOk result (λ r. r.0.depth ≡ depth (view r.0.expr)) }
+    ensures less { IfOk result (λ r. length r.1.now < length tokens.now) }
+{
+    let (names, rest) = names(source, tokens)?;
+    let (_, rest) = token(source, rest, Kind::Colon, Wanted::More(Kind::Colon))?;
+    let (inside, rest) = expression(source, rest, calls, 0)?;
+    let place = at.to(inside.expr.span());
+    let body = Box::new(source.heap, inside.expr)?;
+    let (quantifier, sort) = quantifier;
+    let whole = within(
+        at,
+        Expr::Bound(quantifier, sort, names, body, place),
+        inside.depth,
+    )?;
+    Ok((whole, rest))
+}
+
+// What stands in parentheses, up to the one that closes them, and where that stands.
+#[cycle(reading)]
+fn enclosed<'a>(
+    source: &Source<'_>,
+    tokens: &'a [Token],
+    calls: u32,
+) -> Result<(Part, Span, &'a [Token]), Fault>
+    requires known { length tokens.now ≤ source.now.count }
+    ensures gives { Gives (λ r. (view r.0.expr, words source.now.text.now r.2.now)) result (paren_at (parse source.now.count calls) (words source.now.text.now tokens.now)) }
+    ensures depth { IfOk result (λ r. r.0.depth ≡ depth (view r.0.expr)) }
+    ensures less { IfOk result (λ r. length r.2.now < length tokens.now) }
+{
+    let (inside, rest) = expression(source, tokens, calls, 0)?;
+    let (close, rest) = token(source, rest, Kind::Close, Wanted::End(Kind::Close))?;
+    Ok((inside, close, rest))
+}
+
+// Expressions with commas between them, up to a sign that closes them.
+#[cycle(reading)]
+fn list<'a>(
+    source: &Source<'_>,
+    tokens: &'a [Token],
+    calls: u32,
+    close: Kind,
+) -> Result<(Listing, &'a [Token]), Fault>
+    requires known { length tokens.now ≤ source.now.count }
+    ensures gives { Gives (λ r. (view_all r.0.all.items, words source.now.text.now r.1.now)) result (items (parse source.now.count calls) source.now.count close (words source.now.text.now tokens.now)) }
+    ensures depth { IfOk result (λ r. r.0.depth ≡ depths (view_all r.0.all.items)) }
+    ensures less { IfOk result (λ r. length r.1.now < length tokens.now) }
+{
+    let mut all = Vec::new(source.heap);
+    let (first, mut rest) = expression(source, tokens, calls, 0)?;
+    let mut depth = first.depth;
+    all.push(first.expr)?;
+    while let Some((_, behind)) = front(source, rest, Kind::Comma) {
+        let (further, more) = expression(source, behind, calls, 0)?;
+        depth = depth.max(further.depth);
+        all.push(further.expr)?;
+        rest = more;
+    }
+    let (end, rest) = token(source, rest, close, Wanted::End(close))?;
+    Ok((
+        Listing {
+            all,
+            depth,
+            close: end,
+        },
+        rest,
+    ))
+}
+
+// `{p, q}`, from behind the sign that opens it, which stands at `at`.
+#[cycle(reading)]
+fn listed<'a>(
+    source: &Source<'_>,
+    at: Span,
+    tokens: &'a [Token],
+    calls: u32,
+) -> Result<(Part, &'a [Token]), Fault>
+    requires known { length tokens.now ≤ source.now.count }
+    ensures gives { Gives (λ r. (view r.0.expr, words source.now.text.now r.1.now)) result (set_at (parse source.now.count calls) source.now.count (words source.now.text.now tokens.now)) }
+    ensures depth { IfOk result (λ r. r.0.depth ≡ depth (view r.0.expr)) }
+    ensures less { IfOk result (λ r. length r.1.now < length tokens.now) }
+{
+    let (list, rest) = list(source, tokens, calls, Kind::CloseSet)?;
+    let whole = set_of(at, list)?;
+    Ok((whole, rest))
+}
+
+// What stands behind a name: nothing, or a predicate's arguments.
+#[cycle(reading)]
+fn named<'a>(
+    source: &Source<'_>,
+    name: Name,
+    tokens: &'a [Token],
+    calls: u32,
+) -> Result<(Part, &'a [Token]), Fault>
+    requires known { length tokens.now ≤ source.now.count }
+    ensures gives { Gives (λ r. (view r.0.expr, words source.now.text.now r.1.now)) result (named_at (parse source.now.count calls) source.now.count (string_bytes name.text) (words source.now.text.now tokens.now)) }
+    ensures depth { IfOk result (λ r. r.0.depth ≡ depth (view r.0.expr)) }
+    ensures less { IfOk result (λ r. length r.1.now ≤ length tokens.now) }
+{
+    let Some((_, rest)) = front(source, tokens, Kind::Open) else {
+        return Ok((leaf(Expr::Named(name)), tokens));
+    };
+    arguments(source, name, rest, calls)
+}
+
+// A predicate's arguments, from behind the sign that opens them.
+#[cycle(reading)]
+fn arguments<'a>(
+    source: &Source<'_>,
+    name: Name,
+    tokens: &'a [Token],
+    calls: u32,
+) -> Result<(Part, &'a [Token]), Fault>
+    requires known { length tokens.now ≤ source.now.count }
+    ensures gives { Gives (λ r. (view r.0.expr, words source.now.text.now r.1.now)) result (arguments (parse source.now.count calls) source.now.count (string_bytes name.text) (words source.now.text.now tokens.now)) }
+    ensures depth { IfOk result (λ r. r.0.depth ≡ depth (view r.0.expr)) }
+    ensures less { IfOk result (λ r. length r.1.now ≤ length tokens.now) }
+{
+    if let Some((close, rest)) = front(source, tokens, Kind::Close) {
+        let place = name.span.to(close);
+        return Ok((called_alone(source, name, place), rest));
+    }
+    let (list, rest) = list(source, tokens, calls, Kind::Close)?;
+    let whole = call_of(name, list)?;
+    Ok((whole, rest))
+}
+
+// `empty`, or `empty(X)`, from behind the word, which stands at `at`.
+#[cycle(reading)]
+fn empty<'a>(
+    source: &Source<'_>,
+    at: Span,
+    tokens: &'a [Token],
+    calls: u32,
+) -> Result<(Part, &'a [Token]), Fault>
+    requires known { length tokens.now ≤ source.now.count }
+    ensures gives { Gives (λ r. (view r.0.expr, words source.now.text.now r.1.now)) result (empty_at (parse source.now.count calls) (words source.now.text.now tokens.now)) }
+    ensures depth { IfOk result (λ r. r.0.depth ≡ depth (view r.0.expr)) }
+    ensures less { IfOk result (λ r. length r.1.now ≤ length tokens.now) }
+{
+    let Some((_, rest)) = front(source, tokens, Kind::Open) else {
+        return Ok((leaf(Expr::Empty(at)), tokens));
+    };
+    let (inside, close, rest) = enclosed(source, rest, calls)?;
+    let operand = Box::new(source.heap, inside.expr)?;
+    let whole = within(
+        at,
+        Expr::Unary(Unary::IsEmpty, operand, at.to(close)),
+        inside.depth,
+    )?;
+    Ok((whole, rest))
+}
