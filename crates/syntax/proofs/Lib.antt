@@ -1,5 +1,6 @@
 -- Lemmas on the tokens of a text and on reading them.
 pub mod GapsLaws
+pub mod SpellingLaws
 pub mod CoveringLaws
 pub mod AsciiLaws
 pub mod NamesLaws

@@ -1,12 +1,37 @@
--- How keywords and signs are written.
-use Rattle.std.specs.Prelude.{ℕ, ◌≡◌, ◌⊎◌, List, [], ◌∷◌}
+-- How tokens are written.
+use Rattle.std.specs.Prelude.{ℕ, ◌≡◌, ◌⊎◌, ◌==◌, ◌&&◌, ◌||◌, nat_le, Bool, true, false, IsTrue, List, [], ◌∷◌}
 use Rattle.syntax.specs.declared.token.Kind.{Kind}
 use Rattle.syntax.specs.declared.token.Kind.TheVariants as kind
 
--- a token of a kind may have these bytes: a keyword's are that word, a sign's that sign; a predicate begins with `pred` or `macro`. Of names, numbers and what only MONA has it says nothing
+abbrev pub is_digit : ℕ → Bool
+is_digit b = nat_le 48 b && nat_le b 57
+
+-- `a` to `z`, `A` to `Z` and `_`
+abbrev pub is_letter : ℕ → Bool
+is_letter b = (nat_le 97 b && nat_le b 122) || ((nat_le 65 b && nat_le b 90) || (b == 95))
+
+-- a letter, a digit, `'`, `@` or `$`
+abbrev pub in_name : ℕ → Bool
+in_name b = is_letter b || (is_digit b || ((b == 39) || ((b == 64) || (b == 36))))
+
+abbrev pub each : (ℕ → Bool) → List ℕ → Bool
+each p [] = true
+each p (b ∷ s) = p b && each p s
+
+-- digits, one at least
+abbrev pub is_number : List ℕ → Bool
+is_number [] = false
+is_number (b ∷ s) = is_digit b && each is_digit s
+
+-- a letter, and then what may stand in a name
+abbrev pub is_name : List ℕ → Bool
+is_name [] = false
+is_name (b ∷ s) = is_letter b && each in_name s
+
+-- a token of a kind may have these bytes: a keyword's are that word, a sign's that sign, a name's a name, a number's digits; a predicate begins with `pred` or `macro`. Of what only MONA has it says nothing
 abbrev pub Spells : Kind → List ℕ → Type 0
-Spells kind.Name d = Unit {0}
-Spells kind.Number d = Unit {0}
+Spells kind.Name d = IsTrue (is_name d)
+Spells kind.Number d = IsTrue (is_number d)
 Spells kind.Foreign d = Unit {0}
 Spells kind.Predicate d = (d ≡ 112 ∷ 114 ∷ 101 ∷ 100 ∷ []) ⊎ (d ≡ 109 ∷ 97 ∷ 99 ∷ 114 ∷ 111 ∷ [])
 Spells kind.Ws1s d = d ≡ 119 ∷ 115 ∷ 49 ∷ 115 ∷ []

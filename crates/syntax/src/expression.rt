@@ -14,12 +14,12 @@ use crate::token::{Kind, Token};
 use trees::position::Span;
 use trees::tree::{Binary, Expr, Name, Quantifier, Sort, Unary};
 
-// How many parts may stand within one another.
+/// How many parts may stand within one another.
 pub const MOST_DEPTH: u32 = 1000;
-// How many expressions may be open, one within the other: a part takes one, and so do parentheses.
+/// How many expressions may be open, one within the other: a part takes one, and so do parentheses.
 pub const MOST_OPEN: u32 = 2000;
 
-// An expression that was read, and how many parts of it stand within one another.
+/// An expression that was read, and how many parts of it stand within one another.
 #[derive(Drop)]
 pub struct Part {
     pub expr: Expr,
@@ -41,7 +41,7 @@ fn within(at: Span, expr: Expr, inside: u32) -> Result<Part, Fault>
     })
 }
 
-// An expression whose operators bind at least as tight as `lowest`.
+/// An expression whose operators bind at least as tight as `lowest`.
 #[cycle(reading)]
 pub fn expression<'a>(
     source: &Source<'_>,

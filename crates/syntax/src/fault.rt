@@ -7,7 +7,7 @@ use std::alloc::{AllocError, AllocFailed, Global};
 use std::str::from_utf8;
 use trees::position::Span;
 
-// What could stand at a place.
+/// What could stand at a place.
 #[derive(Clone, Copy, Debug, PartialEq, Eq)]
 pub enum Wanted {
     Item,
@@ -79,7 +79,7 @@ fn put_found(out: &mut String, text: &[u8], span: Span) -> Result<(), AllocError
 }
 
 impl Fault {
-    // Where it stands; without memory nothing in the text is at fault.
+    /// Where it stands; without memory nothing in the text is at fault.
     pub fn span(&self) -> Option<Span> {
         match self {
             Fault::Expected(_, span)
@@ -90,7 +90,7 @@ impl Fault {
         }
     }
 
-    // What was expected and what stands there, in words.
+    /// What was expected and what stands there, in words.
     pub fn message(&self, heap: Global, text: &[u8]) -> Result<String, AllocError> {
         let mut out = String::new(heap);
         match self {

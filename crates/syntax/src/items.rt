@@ -174,7 +174,7 @@ fn behind_header<'a>(source: &Source<'_>, tokens: &'a [Token]) -> Result<&'a [To
     }
 }
 
-// All items.
+/// All items.
 pub fn items(source: &Source<'_>, tokens: &[Token]) -> Result<Vec<Item>, Fault>
     requires known { length tokens.now ≤ source.now.count }
     ensures { Gives (λ v. view_items v.items) result (read_words source.now.count source.now.open (words source.now.text.now tokens.now)) }

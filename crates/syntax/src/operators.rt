@@ -5,18 +5,18 @@ ghost use Rattle.syntax.specs.Parsing.{level_of, right_of, binary_of};
 use crate::token::Kind;
 use trees::tree::Binary;
 
-// How tight an operator binds: an operand binds tighter than the operators beside it, or stands in parentheses. `from` is how tight the right operand has to bind.
+/// How tight an operator binds: an operand binds tighter than the operators beside it, or stands in parentheses. `from` is how tight the right operand has to bind.
 #[derive(Clone, Copy)]
 pub struct Tightness {
     pub level: u8,
     pub right: u8,
 }
 
-// The tightness of `~` and of `min` and `max`.
+/// The tightness of `~` and of `min` and `max`.
 pub const NOT: u8 = 5;
 
 pub const EXTREME: u8 = 8;
-// Names, numbers and what stands in parentheses.
+/// Names, numbers and what stands in parentheses.
 pub const CLOSED: u8 = 13;
 
 pub fn tightness_of(binary: Binary) -> Tightness
@@ -78,7 +78,7 @@ pub fn sign(binary: Binary) -> &'static str {
     }
 }
 
-// The operator that a kind of token is, if it is one.
+/// The operator that a kind of token is, if it is one.
 pub fn binary(kind: Kind) -> Option<Binary>
     ensures { result ≡ binary_of kind }
 {

@@ -3,7 +3,7 @@ use crate::operators::{CLOSED, EXTREME, NOT, sign, tightness_of};
 use std::alloc::{AllocError, Global};
 use trees::tree::{Expr, Item, Name, Parameter, Quantifier, Sort, Unary};
 
-// How many parentheses: as few as there have to be, or around every part that has operands.
+/// How many parentheses: as few as there have to be, or around every part that has operands.
 #[derive(Clone, Copy, Debug, PartialEq, Eq)]
 pub enum Style {
     Few,
@@ -178,14 +178,14 @@ fn put_item(out: &mut String, style: Style, item: &Item) -> Result<(), AllocErro
     out.push_str(";\n")
 }
 
-// An expression as a text.
+/// An expression as a text.
 pub fn expression(heap: Global, expr: &Expr) -> Result<String, AllocError> {
     let mut out = String::new(heap);
     put(&mut out, Style::Few, expr)?;
     Ok(out)
 }
 
-// Items as a text, one a line.
+/// Items as a text, one a line.
 pub fn items(heap: Global, style: Style, items: &[Item]) -> Result<String, AllocError> {
     let mut out = String::new(heap);
     for item in items {

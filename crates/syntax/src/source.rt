@@ -11,10 +11,10 @@ use std::str::from_utf8;
 use trees::position::Span;
 use trees::tree::{Binary, Name};
 
-// The largest number.
+/// The largest number.
 pub const MOST_NUMBER: u32 = 1000;
 
-// A text: where its last token ends, how many tokens it has, and how many expressions may be open, one within the other.
+/// A text: where its last token ends, how many tokens it has, and how many expressions may be open, one within the other.
 #[derive(Clone, Copy)]
 pub struct Source<'t> {
     pub heap: Global,
@@ -35,7 +35,7 @@ fn bytes(text: &[u8], token: Token) -> &[u8]
     }
 }
 
-// The span of the first token, or the place behind the last one.
+/// The span of the first token, or the place behind the last one.
 pub fn span(source: &Source<'_>, tokens: &[Token]) -> Span {
     match tokens {
         [token, ..] => token.span,
@@ -46,7 +46,7 @@ pub fn span(source: &Source<'_>, tokens: &[Token]) -> Span {
     }
 }
 
-// The span of the first token, if it is of a kind, and the tokens behind it.
+/// The span of the first token, if it is of a kind, and the tokens behind it.
 pub fn front<'a>(
     source: &Source<'_>,
     tokens: &'a [Token],
@@ -62,7 +62,7 @@ pub fn front<'a>(
     }
 }
 
-// The same where a token of the kind has to stand.
+/// The same where a token of the kind has to stand.
 pub fn token<'a>(
     source: &Source<'_>,
     tokens: &'a [Token],
@@ -104,7 +104,7 @@ fn is_ascii(bytes: &[u8]) -> bool
     true
 }
 
-// The name that the tokens begin with.
+/// The name that the tokens begin with.
 pub fn name<'a>(source: &Source<'_>, tokens: &'a [Token]) -> Result<(Name, &'a [Token]), Fault>
     ensures gives { Gives (λ r. (string_bytes r.0.text, words source.now.text.now r.1.now)) result (name (words source.now.text.now tokens.now)) }
     ensures less { IfOk result (λ r. length r.1.now + 1 ≡ length tokens.now) }
@@ -126,7 +126,7 @@ pub fn name<'a>(source: &Source<'_>, tokens: &'a [Token]) -> Result<(Name, &'a [
     }
 }
 
-// Names with commas between them.
+/// Names with commas between them.
 pub fn names<'a>(
     source: &Source<'_>,
     tokens: &'a [Token],
@@ -159,7 +159,7 @@ fn decimal(bytes: &[u8]) -> u32
     n
 }
 
-// The number that a token is.
+/// The number that a token is.
 pub fn number(source: &Source<'_>, token: Token) -> Result<u32, Fault>
     ensures { Gives (λ n. n) result (number_of (bytes_of source.now.text.now token)) }
 {
@@ -170,7 +170,7 @@ pub fn number(source: &Source<'_>, token: Token) -> Result<u32, Fault>
     Ok(n)
 }
 
-// The operator that the tokens begin with, if it binds at least as tight as `lowest`.
+/// The operator that the tokens begin with, if it binds at least as tight as `lowest`.
 pub fn operator<'a>(
     source: &Source<'_>,
     tokens: &'a [Token],

@@ -1,8 +1,9 @@
 // The tokens of a text. Blanks, and comments from `#` to the end of the line, stand between them.
 ghost use Rattle.std.specs.Prelude.{◌≡◌, ℕ, ◌+◌, ◌<◌, ◌≤◌, ◌∷◌, [], length, take, false, IsTrue, IfSome, IfOk};
+ghost use Rattle.std.specs.List.{prefix_len};
 ghost use Rattle.syntax.specs.Gaps.{is_blank, goes_on, in_comment, is_gap, gap_len};
 ghost use Rattle.syntax.specs.Covering.{Covers};
-ghost use Rattle.syntax.specs.Spelling.{Spells};
+ghost use Rattle.syntax.specs.Spelling.{Spells, is_digit, is_letter, in_name, is_name};
 
 use crate::fault::Fault;
 use std::alloc::Global;
@@ -62,7 +63,7 @@ pub struct Token {
     pub span: Span,
 }
 
-// How a token of a kind is written, or what it is.
+/// How a token of a kind is written, or what it is.
 pub fn spelling(kind: Kind) -> &'static str {
     match kind {
         Kind::Name => "a name",
@@ -113,6 +114,7 @@ pub fn spelling(kind: Kind) -> &'static str {
 
 // The kind of a word: a keyword, a word that only MONA has, or a name.
 fn word_kind(word: &[u8]) -> Kind
+    requires { IsTrue (is_name word.now) }
     ensures { Spells result word.now }
 {
     match word {
@@ -145,7 +147,7 @@ fn word_kind(word: &[u8]) -> Kind
     }
 }
 
-// What a word or a sign is that only MONA has.
+/// What a word or a sign is that only MONA has.
 pub fn foreign_reason(word: &[u8]) -> Option<&'static str> {
     match word {
         b"ws2s"
@@ -178,26 +180,34 @@ pub fn foreign_reason(word: &[u8]) -> Option<&'static str> {
     }
 }
 
-fn is_digit(b: u8) -> bool {
+fn is_digit(b: u8) -> bool
+    ensures { result ≡ is_digit b }
+{
     b >= b'0' && b <= b'9'
 }
 
-fn is_letter(b: u8) -> bool {
+fn is_letter(b: u8) -> bool
+    ensures { result ≡ is_letter b }
+{
     (b >= b'a' && b <= b'z') || (b >= b'A' && b <= b'Z') || b == b'_'
 }
 
-fn in_name(b: u8) -> bool {
+fn in_name(b: u8) -> bool
+    ensures { result ≡ in_name b }
+{
     is_letter(b) || is_digit(b) || b == b'\'' || b == b'@' || b == b'$'
 }
 
 fn digits_end(rest: &[u8]) -> usize
-    ensures { result ≤ length rest.now }
+    ensures within { result ≤ length rest.now }
+    ensures count { result ≡ prefix_len is_digit rest.now }
 {
     rest.iter().take_while(|b| is_digit(**b)).count()
 }
 
 fn name_end(rest: &[u8]) -> usize
-    ensures { result ≤ length rest.now }
+    ensures within { result ≤ length rest.now }
+    ensures count { result ≡ prefix_len in_name rest.now }
 {
     rest.iter().take_while(|b| in_name(**b)).count()
 }
@@ -244,6 +254,7 @@ fn single_sign(b: u8) -> Option<Kind>
 }
 
 // The kind and the length of the token that a text begins with.
+#[tactic(auto, using(crate::proofs::SpellingLaws::number_counted, crate::proofs::SpellingLaws::name_counted))]
 fn front(rest: &[u8]) -> Option<(Kind, usize)>
     ensures within { IfSome result (λ r. (0 < r.1) × (r.1 ≤ length rest.now)) }
     ensures spells { IfSome result (λ r. Spells r.0 (take r.1 rest.now)) }
