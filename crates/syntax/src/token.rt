@@ -293,8 +293,7 @@ fn gap(bytes: &[u8]) -> usize
     ensures within { result ≤ length bytes.now }
     ensures gap { IsTrue (is_gap (take result bytes.now)) }
 {
-    let count = blanks(bytes);
-    count
+    blanks(bytes)
 }
 
 // The same, counted.
