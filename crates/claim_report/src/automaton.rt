@@ -30,7 +30,11 @@ pub enum Smallest {
 }
 
 /// The smallest automaton of a text's claim under its assumptions, whose set x is that of the x-th declared name. It is worked out with at most so many classes told apart, or as many as there is memory for. Fails where the text says nothing, where its claim takes too many bytes or sets, where more classes are wanted than there is memory for, and for memory.
-pub fn smallest_automaton(alloc: Global, items: &[Item], most: Option<u32>) -> Result<Smallest, Stop>
+pub fn smallest_automaton(
+    alloc: Global,
+    items: &[Item],
+    most: Option<u32>,
+) -> Result<Smallest, Stop>
     ensures { IfOk result (λ s. IsAutomaton items.now s) }
 {
     let question = question_of(alloc, items)?;

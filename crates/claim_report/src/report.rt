@@ -1,7 +1,7 @@
 // A text, and what is reported of it.
 ghost use Rattle.std.specs.Prelude.{◌≡◌, IfOk, string_bytes};
 ghost use Rattle.claim_report.specs.Told.{columns_told};
-ghost use Rattle.claim_report.specs.Reported.{Reported, told};
+ghost use Rattle.claim_report.specs.Reported.{Reported, Fulfils, told};
 ghost use Rattle.claim_report.specs.declared.report.Form.TheVariants.{Rows};
 
 use crate::automaton::{Drawing, Smallest, drawn, smallest_automaton};
@@ -131,7 +131,9 @@ fn reported(
     source: Source<'_>,
     most: Option<u32>,
     wish: Wish,
-) -> Result<String, Stop> {
+) -> Result<String, Stop>
+    ensures { IfOk result (λ printed. Fulfils source.text.now wish (string_bytes printed)) }
+{
     let items = read(alloc, source.text)?;
     match wish {
         Wish::Bytes => lines(alloc, &items, most),
@@ -146,7 +148,9 @@ pub fn report(
     source: Source<'_>,
     most: Option<u32>,
     wish: Wish,
-) -> Result<Result<String, String>, AllocError> {
+) -> Result<Result<String, String>, AllocError>
+    ensures { IfOk result (λ r. IfOk r (λ printed. Fulfils source.text.now wish (string_bytes printed))) }
+{
     match reported(alloc, source, most, wish) {
         Ok(words) => Ok(Ok(words)),
         Err(stop) => Ok(Err(stop.message(alloc, source.file, source.text)?)),
