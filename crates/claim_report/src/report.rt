@@ -132,7 +132,7 @@ fn reported(
     most: Option<u32>,
     wish: Wish,
 ) -> Result<String, Stop>
-    ensures { IfOk result (λ printed. Fulfils source.text.now wish (string_bytes printed)) }
+    ensures { IfOk result (λ printed. Fulfils source.entry.text.now wish (string_bytes printed)) }
 {
     let items = read(alloc, source.text)?;
     match wish {
@@ -149,7 +149,7 @@ pub fn report(
     most: Option<u32>,
     wish: Wish,
 ) -> Result<Result<String, String>, AllocError>
-    ensures { IfOk result (λ r. IfOk r (λ printed. Fulfils source.text.now wish (string_bytes printed))) }
+    ensures { IfOk result (λ r. IfOk r (λ printed. Fulfils source.entry.text.now wish (string_bytes printed))) }
 {
     match reported(alloc, source, most, wish) {
         Ok(words) => Ok(Ok(words)),
