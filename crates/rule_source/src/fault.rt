@@ -1,4 +1,6 @@
 // What is wrong with a rule file, and how it is shown: FILE:LINE:COLUMN, what was expected and what stands there, and the line with a caret under the place.
+ghost use Rattle.std.specs.Prelude.{◌≡◌};
+
 use rule_file::token::Token;
 use rules::known::Unsound;
 use std::alloc::{AllocError, AllocFailed};
