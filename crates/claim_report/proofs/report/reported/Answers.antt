@@ -1,4 +1,5 @@
-use Rattle.std.proofs.Common.{◌≡◌, IfOk, IfOk-weaker, string_bytes, sym, subst}
+use Rattle.std.proofs.Common.{◌≡◌, IfOk, string_bytes, sym, subst}
+use Rattle.std.proofs.lemmas.Result.{IfOk-weaker}
 use Rattle.claim_report.specs.Reported.{Reported, Fulfils}
 use Rattle.claim_report.proofs.report.reported.Goals as goal
 
