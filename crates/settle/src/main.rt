@@ -21,8 +21,8 @@ fn read_input(rt: &HostRuntime, file: &str) -> io::Result<Vec<u8>> {
     }
 }
 
-fn settle_file(rt: &HostRuntime, options: &Options<'_>) -> anyhow::Result<ExitCode> {
-    let file = options.file;
+// Tells what is wanted of the text in a file.
+fn settle_file(rt: &HostRuntime, file: &str, options: Options) -> anyhow::Result<ExitCode> {
     let text = match read_input(rt, file) {
         Ok(text) => text,
         Err(error) => {
@@ -55,7 +55,8 @@ fn run(rt: &HostRuntime) -> anyhow::Result<ExitCode> {
             return Ok(ExitCode::from(status_of(&error)));
         }
     };
-    settle_file(rt, &options_of(&matches))
+    let file = matches.get_str("FILE").unwrap_or("-");
+    settle_file(rt, file, options_of(&matches))
 }
 
 fn main(rt: HostRuntime) -> anyhow::Result<ExitCode> {

@@ -16,9 +16,7 @@ docs/CLAIMS.md says how a claim is written.";
 
 /// What the command line asks for.
 #[derive(Clone, Copy, Debug, PartialEq, Eq)]
-pub struct Options<'a> {
-    /// The file of the text, or `-` for standard input.
-    pub file: &'a str,
+pub struct Options {
     /// At most so many classes are told apart at a part of the claim; without it as many as 4 MiB have room for.
     pub most: Option<u32>,
     /// How the answer is shown.
@@ -77,8 +75,8 @@ pub fn status_of(error: &Error) -> u8 {
     if error.exit_code() == 0 { 0 } else { 1 }
 }
 
-/// The file, and how the answer is wanted.
-pub fn options_of<'a>(matches: &'a ArgMatches<'a>) -> Options<'a> {
+/// How the answer is wanted.
+pub fn options_of(matches: &ArgMatches<'_>) -> Options {
     let wish = if matches.get_flag("bytes") {
         Wish::Bytes
     } else if matches.get_flag("dot") {
@@ -91,7 +89,6 @@ pub fn options_of<'a>(matches: &'a ArgMatches<'a>) -> Options<'a> {
         Wish::Answer(Form::Rows)
     };
     Options {
-        file: matches.get_str("FILE").unwrap_or("-"),
         most: matches.get_one::<u32>("most"),
         wish,
     }
