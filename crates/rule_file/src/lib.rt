@@ -1,10 +1,17 @@
 // Rule files as text: the tokens of a file, the tree of what stands in it, how a tree is printed, and what is wrong with a file. Names are not looked up here.
 #![tactic(auto)]
 
+mod cursor;
+mod effects;
 pub mod fault;
+mod modules;
 pub mod names;
 pub mod parse;
+mod patterns;
 pub mod print;
+#[cfg(test)]
+mod random_tests;
+mod statements;
 #[cfg(test)]
 mod tests;
 pub mod token;

@@ -1,7 +1,7 @@
 use Rattle.std.proofs.Common.{◌≡◌, ◌++◌, length}
 use Rattle.std.specs.List.{flat_map}
 use Rattle.rule_file.specs.Written.{module_tokens}
-use Rattle.rule_file.proofs.parse.modules.Given as goal
+use Rattle.rule_file.proofs.modules.modules.Given as goal
 
 abbrev pub invariant-loop-all : goal.invariant-loop-all
 invariant-loop-all l = flat_map module_tokens l.all.items ++ l.rest ≡ l.tokens

@@ -3,7 +3,7 @@ use Rattle.std.proofs.ResultArms.{chosen}
 use Rattle.std.proofs.lemmas.List.Elements.{All-push}
 use Rattle.rule_file.specs.declared.token.Token.{Token}
 use Rattle.rule_file.proofs.WrittenLaws.{token_more}
-use Rattle.rule_file.proofs.parse.run.Goals as goal
+use Rattle.rule_file.proofs.cursor.run.Goals as goal
 
 pub loop-token-preserved : goal.loop-token-preserved
 loop-token-preserved c =

@@ -5,7 +5,7 @@ use Rattle.rule_file.specs.declared.tree.Term.{Term}
 use Rattle.rule_file.specs.Kinds.{IsTerm}
 use Rattle.rule_file.proofs.WrittenLaws.{written_more}
 use Rattle.rule_file.proofs.KindsLaws.{terms_more}
-use Rattle.rule_file.proofs.parse.part.Goals as goal
+use Rattle.rule_file.proofs.patterns.part.Goals as goal
 
 pub loop-all-preserved : goal.loop-all-preserved
 loop-all-preserved c =
