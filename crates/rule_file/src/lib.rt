@@ -9,10 +9,6 @@ pub mod names;
 pub mod parse;
 mod patterns;
 pub mod print;
-#[cfg(test)]
-mod random_tests;
 mod statements;
-#[cfg(test)]
-mod tests;
 pub mod token;
 pub mod tree;

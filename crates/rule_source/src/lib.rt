@@ -9,5 +9,3 @@ pub mod formula;
 pub mod lines;
 pub mod pattern;
 pub mod source;
-#[cfg(test)]
-mod tests;

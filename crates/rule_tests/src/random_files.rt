@@ -1,5 +1,5 @@
 // Files made at random, printed and read again.
-use crate::tests::wrong;
+use crate::file::wrong;
 use std::alloc::Global;
 use std::test::Fail;
 

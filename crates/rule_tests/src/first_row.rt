@@ -1,9 +1,9 @@
 // Answers worked out by hand, of rules of one bit.
-use crate::first_row::first_row;
-use crate::verdict::Verdict;
 use formulas::formula::{Formula, Group};
 use rows::line::{Line, Pattern};
 use rows::rule::{Asked, Literal, NewBit, Side};
+use rule_check::first_row::first_row;
+use rule_check::verdict::Verdict;
 use rules::known::Unsound;
 use rules::property::Property;
 use rules::question::Question;

@@ -1,9 +1,9 @@
 // What is read of rule files, worked out by hand.
-use crate::claimed::{Put, claims_of};
-use crate::fault::Fault;
-use crate::source::source_of;
 use formulas::formula::{Formula, Group, Place};
 use rows::rule::{Asked, Literal, NewBit, Side};
+use rule_source::claimed::{Put, claims_of};
+use rule_source::fault::Fault;
+use rule_source::source::source_of;
 use rules::property::Property;
 use std::alloc::Global;
 use std::test::Fail;
