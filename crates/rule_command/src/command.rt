@@ -1,5 +1,5 @@
 // The command line of `conveyor`.
-use crate::options::Options;
+use rule_report::options::Options;
 use clap::error::Error;
 use clap::{Arg, ArgAction, ArgMatches, Command};
 use std::alloc::Global;

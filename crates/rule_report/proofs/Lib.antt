@@ -1,0 +1,3 @@
+-- How rows and reports go on.
+pub mod ShownRowsLaws
+pub mod ReportedLaws
