@@ -1,3 +1,4 @@
--- How rows and reports go on.
+-- How rows and reports go on; where a question gets too large.
 pub mod ShownRowsLaws
 pub mod ReportedLaws
+pub mod NarrowingLaws

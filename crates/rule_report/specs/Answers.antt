@@ -12,6 +12,8 @@ use Rattle.rule_report.specs.declared.answer.Answer.{Answer}
 use Rattle.rule_report.specs.declared.answer.Answer.TheVariants.{Never, First, TooLarge, Refused}
 use Rattle.rule_report.specs.declared.options.Options.{Options}
 use Rattle.rule_report.specs.declared.subject.Subject.{Subject}
+use Rattle.rule_source.specs.declared.source.Source.{Source}
+use Rattle.rule_report.specs.Narrowing.{IsNarrowest}
 use Rattle.rule_report.specs.ShownRows.{Follows}
 use Rattle.rule_report.specs.Subjects.{steps_of}
 
@@ -25,9 +27,9 @@ pub record FirstRows (r : Rule) (p : Property) (steps : ℕ) (h : History) : Typ
 abbrev pub most_of : Options → ℕ
 most_of o = unwrap_or o.most (2 ^ 32 - 1)
 
--- no row has the property; these are the first row that has it and those after it; so many classes do not suffice for its claim; the claim takes so many bytes or sets
-abbrev pub TrueOf : Rule → Options → Subject → Property → Answer → Type 0
-TrueOf r o s p Never = (w : Word) → Columns r.bits w → Has r p w → ⊥
-TrueOf r o s p (First h) = FirstRows r p (steps_of s o.steps) h
-TrueOf r o s p (TooLarge n place) = TooMany (sets_needed (suc r.bits) (claim_of r p)) (claim_of r p) (most_of o) n
-TrueOf r o s p (Refused e) = IsRefused (suc r.bits) (claim_of r p) e
+-- no row of the source's rule has the property; these are the first row that has it and those after it; so many classes do not suffice for its claim, and this is where; the claim takes so many bytes or sets
+abbrev pub TrueOf : Source → Options → Subject → Property → Answer → Type 0
+TrueOf source o s p Never = (w : Word) → Columns source.rule.bits w → Has source.rule p w → ⊥
+TrueOf source o s p (First h) = FirstRows source.rule p (steps_of s o.steps) h
+TrueOf source o s p (TooLarge n place) = TooMany (sets_needed (suc source.rule.bits) (claim_of source.rule p)) (claim_of source.rule p) (most_of o) n × IsNarrowest n source s place
+TrueOf source o s p (Refused e) = IsRefused (suc source.rule.bits) (claim_of source.rule p) e

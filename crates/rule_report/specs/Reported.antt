@@ -4,13 +4,6 @@ use Rattle.std.specs.List.{flat_map}
 use Rattle.std.specs.Fmt.{decimal}
 use Rattle.rules.specs.declared.property.Property.{Property}
 use Rattle.rules.specs.declared.property.Property.TheVariants.{Allowed, Stuck, Left}
-use Rattle.rule_file.specs.Claims.{bytes_of}
-use Rattle.rule_file.specs.Covering.{Covers}
-use Rattle.rule_file.specs.Written.{file_tokens}
-use Rattle.rule_source.specs.Asking.{Asks}
-use Rattle.rule_source.specs.Claimed.{claims_in}
-use Rattle.rule_source.specs.Counted.{count_of, is_limit, is_line, is_row}
-use Rattle.rule_source.specs.Patterns.{allowed_in}
 use Rattle.rule_source.specs.declared.claimed.Claim.{Claim}
 use Rattle.rule_source.specs.declared.source.Given.{Given}
 use Rattle.rule_source.specs.declared.source.Source.{Source}
@@ -22,26 +15,11 @@ use Rattle.rule_report.specs.declared.shown_rows.Picture.{Picture}
 use Rattle.rule_report.specs.declared.subject.Subject.{Subject}
 use Rattle.rule_report.specs.declared.subject.Subject.TheVariants as subject
 use Rattle.rule_report.specs.Answers.{TrueOf}
+use Rattle.rule_report.specs.Reading.{IsRead, AreClaims}
 use Rattle.rule_report.specs.ShownClaim.{IsShown}
 use Rattle.rule_report.specs.ShownRows.{rows_from, rows_shown, picture_name}
 use Rattle.rule_report.specs.Subjects.{short_of}
 use Rattle.rule_report.specs.Told.{told, Ends}
-
--- the text of a file is read as this: each statement of the text is in the file, and each that makes the rule, or gives a row, is in these
-pub record IsRead (text : List ℕ) (s : Source) : Type 0 where
-  pub file : Covers text 0 (file_tokens s.file) (length text)
-  pub text_is : s.bits.text.now ≡ text
-  pub names : map (λ n. n.now) s.bits.names.items ≡ map (λ t. bytes_of text t) s.file.bits.items
-  pub bits : s.rule.bits ≡ length s.bits.names.items
-  pub patterns : s.rule.allowed.items ≡ allowed_in s.bits s.file.lines.items
-  pub limits : length s.rule.limits.items ≡ count_of is_limit s.file.lines.items
-  pub lines : length s.rule.table.items ≡ count_of is_line s.file.lines.items
-  pub rows : length s.rows.items ≡ count_of is_row s.file.lines.items
-
--- these are the claims of the file, in their order
-pub record AreClaims (s : Source) (claims : List Claim) : Type 0 where
-  pub statements : map (λ c. c.statement.now) claims ≡ claims_in s.file.lines.items
-  pub each : All (Asks s) claims
 
 -- what is asked of the rule: what each rule is asked, and the opposite of each claim
 abbrev pub of_claim : Claim → Subject × Property
@@ -79,7 +57,7 @@ drawn s (Refused e) = []
 
 -- the answer is true of the rule
 pub record IsPart (file : List ℕ) (s : Source) (o : Options) (part : Part) : Type 0 where
-  pub true_of : TrueOf s.rule o part.subject part.property part.answer
+  pub true_of : TrueOf s o part.subject part.property part.answer
   pub ends : Ends file s.bits.text.now part.answer part.ending
   pub shown : IsShown o s.rule part.property part.claim
 

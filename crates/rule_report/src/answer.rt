@@ -45,7 +45,7 @@ pub fn answer_to(
     subject: &Subject<'_>,
     question: &Question<'_>,
 ) -> Result<Answer, Stop>
-    ensures { question.now.rule.now ≡ asked.entry.source.now.rule → IfOk result (TrueOf asked.entry.source.now.rule asked.entry.options.now subject.now question.now.property) }
+    ensures { question.now.rule.now ≡ asked.entry.source.now.rule → IfOk result (TrueOf asked.entry.source.now asked.entry.options.now subject.now question.now.property) }
 {
     let most = asked.options.most.unwrap_or(u32::MAX);
     match first_row(alloc, question, most) {
