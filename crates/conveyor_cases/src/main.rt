@@ -2,7 +2,7 @@
 // large, with the place. `conveyor_cases FILE..`
 #![tactic(auto)]
 
-use rule_report::command::{parse, status_of};
+use rule_command::command::{parse, status_of};
 use rule_report::options::Options;
 use rule_report::report::report_file;
 use std::{env, fs};

@@ -2,7 +2,6 @@
 #![tactic(auto)]
 
 pub mod answer;
-pub mod command;
 pub mod narrow;
 pub mod options;
 pub mod report;
@@ -10,3 +9,4 @@ pub mod shown_claim;
 pub mod shown_rows;
 pub mod stop;
 pub mod subject;
+pub mod told;

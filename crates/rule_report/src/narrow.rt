@@ -1,5 +1,8 @@
 // Where in a rule file too much is told apart: the first statement with which, behind those before it, the claim is too large for so many classes. Where
 // a claim of the file is too large before any of them, it is that claim's own statement.
+ghost use Rattle.std.specs.Prelude.{◌≡◌, IfOk, MatchBool, is_some};
+ghost use Rattle.rule_report.specs.Narrowing.{AsksFor, IsAnswered, IsLarge, IsNarrowest, OfLines, is_claim, is_of_rule};
+
 use crate::stop::Stop;
 use crate::subject::Subject;
 use claims::encode::Refusal;
@@ -14,7 +17,9 @@ use std::alloc::Global;
 use trees::position::Span;
 
 // The property that the subject asks for.
-fn property(alloc: Global, source: &Source<'_>, subject: &Subject<'_>) -> Result<Property, Stop> {
+fn property(alloc: Global, source: &Source<'_>, subject: &Subject<'_>) -> Result<Property, Stop>
+    ensures { IfOk result (AsksFor source.now.bits subject.now) }
+{
     match subject {
         Subject::SomeAllowed => Ok(Property::Allowed),
         Subject::NoneStuck => Ok(Property::Stuck),
@@ -23,26 +28,31 @@ fn property(alloc: Global, source: &Source<'_>, subject: &Subject<'_>) -> Result
     }
 }
 
-// Whether the claim is too large where the rule has these statements alone.
+// Whether the claim is too large where the rule has these statements alone. If it is not, it is answered.
 fn is_large(
     alloc: Global,
     source: &Source<'_>,
     subject: &Subject<'_>,
     lines: &[Line],
     most: u32,
-) -> Result<bool, Stop> {
+) -> Result<bool, Stop>
+    ensures { IfOk result (λ large. MatchBool large (OfLines (IsLarge most) source.now.bits subject.now lines.now) (OfLines IsAnswered source.now.bits subject.now lines.now)) }
+{
     let rule = rule_of(alloc, &source.bits, lines)?;
-    let question = Question::new(alloc, &rule, property(alloc, source, subject)?)?;
+    let property = property(alloc, source, subject)?;
+    let question = Question::new(alloc, &rule, property)?;
     match first_row(alloc, &question, most) {
         Ok(Verdict::TooLarge(_)) => Ok(true),
-        Ok(_) => Ok(false),
+        Ok(Verdict::Never | Verdict::First(_)) => Ok(false),
         Err(Refusal::OutOfMemory) => Err(Stop::Memory),
         Err(_) => Ok(true),
     }
 }
 
 // Where the subject itself stands in the file.
-fn own_span(subject: &Subject<'_>) -> Option<Span> {
+fn own_span(subject: &Subject<'_>) -> Option<Span>
+    ensures { is_some result ≡ is_claim subject.now }
+{
     match subject {
         Subject::Claim(_, _, statement) => Some(statement_span(*statement)),
         _ => None,
@@ -55,13 +65,18 @@ pub fn narrowest(
     source: &Source<'_>,
     subject: &Subject<'_>,
     most: u32,
-) -> Result<Option<Span>, Stop> {
+) -> Result<Option<Span>, Stop>
+    ensures { IfOk result (IsNarrowest most source.now subject.now) }
+{
     let lines = source.file.lines.as_slice();
     if is_large(alloc, source, subject, &lines[..0], most)? {
         return Ok(own_span(subject));
     }
     for (k, line) in lines.iter().enumerate() {
-        if is_of_rule(&line.statement) && is_large(alloc, source, subject, &lines[..k + 1], most)? {
+        if !is_of_rule(&line.statement) {
+            continue;
+        }
+        if is_large(alloc, source, subject, &lines[..k + 1], most)? {
             return Ok(Some(statement_span(&line.statement)));
         }
     }
@@ -69,7 +84,9 @@ pub fn narrowest(
 }
 
 // Whether the statement makes the rule another one.
-fn is_of_rule(statement: &Statement) -> bool {
+fn is_of_rule(statement: &Statement) -> bool
+    ensures { result ≡ is_of_rule statement.now }
+{
     match statement {
         Statement::Pattern(_) | Statement::Limit(_, _) | Statement::Line(_, _, _) => true,
         _ => false,

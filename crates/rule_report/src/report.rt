@@ -1,12 +1,21 @@
 // The report of a rule file.
-use crate::answer::{Answer, Answered, Asked, answer_to};
+ghost use Rattle.std.specs.Prelude.{◌≡◌, ◌++◌, [], ◌∷◌, All, IfOk, OnOk, length, codes, map, string_bytes, if◌then◌else◌};
+ghost use Rattle.rule_report.specs.ShownRows.{picture_name};
+ghost use Rattle.std.specs.List.{flat_map};
+ghost use Rattle.std.specs.Fmt.{decimal};
+ghost use Rattle.rule_source.specs.Asking.{Asks};
+ghost use Rattle.rule_report.specs.Reported.{Reported, Reports, ReportsClaims, Tells, drawn, front_pictures, front_words, general, given_pictures, given_words, of_claim, picture_names};
+
+use crate::answer::{Answer, Asked, answer_to};
 use crate::options::Options;
 use crate::shown_claim::shown_claim;
-use crate::shown_rows::{Picture, Rows, draw, history};
+use crate::shown_rows::{Picture, Rows, draw, history, title_of};
 use crate::stop::Stop;
 use crate::subject::Subject;
+use crate::told::{Answered, ending};
+use diagram::history::History;
 use rule_source::claimed::{Claim, claims_of};
-use rule_source::source::{Source, source_of};
+use rule_source::source::{Given, Source, source_of};
 use rules::property::Property;
 use rules::question::Question;
 use std::alloc::{AllocError, Global};
@@ -19,89 +28,184 @@ pub struct Report {
 }
 
 impl Report {
-    // Takes in the given rows, with the rows after them.
-    fn add_rows(&mut self, alloc: Global, asked: Asked<'_, '_>) -> Result<(), Stop> {
-        for (i, row) in asked.source.rows.iter().enumerate() {
-            let history = history(alloc, asked.source, &row.columns, asked.options.steps)?;
-            let rows = Rows {
-                names: &asked.source.bits.names,
-                history: &history,
-            };
-            write!(self.text, "  a given row\n{rows}")?;
-            if asked.options.pictures {
-                let short = format!(in alloc; "row-{}", i + 1)?;
-                let picture = draw(
-                    alloc,
-                    asked.source,
-                    asked.file,
-                    "a given row",
-                    short.as_str(),
-                    &history,
-                )?;
-                self.pictures.push(picture)?;
-            }
-        }
-        Ok(())
-    }
-
-    // Takes in the answer to a question, its picture if one is wanted, and its claim as the options want it shown.
-    fn add_question(
-        &mut self,
-        alloc: Global,
-        asked: Asked<'_, '_>,
-        subject: &Subject<'_>,
-        question: &Question<'_>,
-    ) -> Result<(), Stop> {
-        let answer = answer_to(alloc, asked, subject, question)?;
-        let answered = Answered {
-            asked,
-            subject: *subject,
-            answer: &answer,
-        };
-        write!(self.text, "{answered}")?;
-        if asked.options.pictures
-            && let Answer::First(history) = &answer
-        {
-            let (name, short) = (subject.name(), subject.short());
-            let picture = draw(alloc, asked.source, asked.file, name, short, history)?;
-            self.pictures.push(picture)?;
-        }
-        let claim = shown_claim(alloc, asked, question)?;
-        self.text.push_str(claim.as_str())?;
-        Ok(())
-    }
-
-    // Takes in a question that each rule gets.
-    fn add_general(
-        &mut self,
-        alloc: Global,
-        asked: Asked<'_, '_>,
-        subject: Subject<'_>,
-        property: Property,
-    ) -> Result<(), Stop> {
-        let source = asked.source;
-        let question = Question::new(alloc, &source.rule, property)?;
-        self.add_question(alloc, asked, &subject, &question)
+    // Puts what is told besides behind what is there.
+    fn append(&mut self, more: Report) -> Result<(), AllocError>
+        ensures text { OnOk result (string_bytes self.new.text ≡ string_bytes self.old.text ++ string_bytes more.text) }
+        ensures pictures { OnOk result (self.new.pictures.items ≡ self.old.pictures.items ++ more.pictures.items) }
+    {
+        let mut pictures = more.pictures;
+        self.text.push_str(more.text.as_str())?;
+        self.pictures.append(&mut pictures)
     }
 }
 
-// The report of a rule and its claims.
-fn report_on(alloc: Global, asked: Asked<'_, '_>, claims: &[Claim<'_>]) -> Result<Report, Stop> {
+// The picture of rows, if pictures are wanted.
+fn picture_of(
+    alloc: Global,
+    asked: Asked<'_, '_>,
+    subject: &str,
+    short: &str,
+    history: &History,
+) -> Result<Vec<Picture>, AllocError>
+    ensures { IfOk result (λ all. picture_names all.items ≡ map (picture_name asked.entry.title.now) (if asked.entry.options.now.pictures then short.now ∷ [] else [])) }
+{
+    if !asked.options.pictures {
+        return Ok(Vec::new(alloc));
+    }
+    let picture = draw(alloc, asked.source, asked.title, subject, short, history)?;
+    let mut all = Vec::new(alloc);
+    all.push(picture)?;
+    Ok(all)
+}
+
+// The given row with that number, and the rows after it.
+fn given(
+    alloc: Global,
+    asked: Asked<'_, '_>,
+    number: usize,
+    row: &Given,
+) -> Result<Report, AllocError>
+    ensures text { IfOk result (λ r. string_bytes r.text ≡ given_words asked.entry.source.now asked.entry.options.now row.now) }
+    ensures pictures { IfOk result (λ r. picture_names r.pictures.items ≡ map (picture_name asked.entry.title.now) (if asked.entry.options.now.pictures then (codes "row-" ++ decimal number) ∷ [] else [])) }
+{
+    let history = history(alloc, asked.source, &row.columns, asked.options.steps)?;
+    let rows = Rows {
+        names: &asked.source.bits.names,
+        history: &history,
+    };
+    let short = format!(in alloc; "row-{number}")?;
+    Ok(Report {
+        text: format!(in alloc; "  a given row\n{rows}")?,
+        pictures: picture_of(alloc, asked, "a given row", short.as_str(), &history)?,
+    })
+}
+
+// The given rows, with the rows after them.
+fn given_rows(alloc: Global, asked: Asked<'_, '_>) -> Result<Report, AllocError>
+    ensures text { IfOk result (λ r. string_bytes r.text ≡ flat_map (given_words asked.entry.source.now asked.entry.options.now) asked.entry.source.now.rows.items) }
+    ensures pictures { IfOk result (λ r. picture_names r.pictures.items ≡ map (picture_name asked.entry.title.now) (front_pictures asked.entry.source.now asked.entry.options.now)) }
+{
+    let mut report = Report {
+        text: String::new(alloc),
+        pictures: Vec::new(alloc),
+    };
+    for (i, row) in asked.source.rows.iter().enumerate() {
+        report.append(given(alloc, asked, i + 1, row)?)?;
+    }
+    Ok(report)
+}
+
+// The file's name, and the given rows where something is to be seen of them.
+fn front(alloc: Global, asked: Asked<'_, '_>) -> Result<Report, AllocError>
+    ensures text { IfOk result (λ r. string_bytes r.text ≡ front_words asked.entry.file.now asked.entry.source.now asked.entry.options.now) }
+    ensures pictures { IfOk result (λ r. picture_names r.pictures.items ≡ map (picture_name asked.entry.title.now) (front_pictures asked.entry.source.now asked.entry.options.now)) }
+{
     let file = asked.file;
     let mut report = Report {
         text: format!(in alloc; "{file}\n")?,
         pictures: Vec::new(alloc),
     };
-    if asked.options.steps > 0 || asked.options.pictures {
-        report.add_rows(alloc, asked)?;
+    if asked.options.steps == 0 && !asked.options.pictures {
+        return Ok(report);
     }
-    report.add_general(alloc, asked, Subject::SomeAllowed, Property::Allowed)?;
-    report.add_general(alloc, asked, Subject::NoneStuck, Property::Stuck)?;
-    report.add_general(alloc, asked, Subject::AllowedKept, Property::Left)?;
+    report.append(given_rows(alloc, asked)?)?;
+    Ok(report)
+}
+
+// The picture of a first row, if pictures are wanted.
+fn picture_of_answer(
+    alloc: Global,
+    asked: Asked<'_, '_>,
+    subject: &Subject<'_>,
+    answer: &Answer,
+) -> Result<Vec<Picture>, AllocError>
+    ensures { IfOk result (λ all. picture_names all.items ≡ map (picture_name asked.entry.title.now) (if asked.entry.options.now.pictures then drawn subject.now answer.now else [])) }
+{
+    match answer {
+        Answer::First(history) => picture_of(alloc, asked, subject.name(), subject.short(), history),
+        Answer::Never | Answer::TooLarge(_, _) | Answer::Refused(_) => Ok(Vec::new(alloc)),
+    }
+}
+
+// The answer to a question, its picture if one is wanted, and its claim as the options want it shown.
+fn answered(
+    alloc: Global,
+    asked: Asked<'_, '_>,
+    subject: &Subject<'_>,
+    question: &Question<'_>,
+) -> Result<Report, Stop>
+    requires { question.now.rule.now ≡ asked.source.now.rule }
+    ensures { IfOk result (Tells asked.entry.file.now asked.entry.title.now asked.entry.source.now asked.entry.options.now ((subject.now, question.now.property) ∷ [])) }
+{
+    let source = asked.source;
+    let answer = answer_to(alloc, asked, subject, question)?;
+    let told = Answered {
+        subject: *subject,
+        names: &source.bits.names,
+        answer: &answer,
+    };
+    let ending = ending(alloc, asked.file, source.bits.text, &answer)?;
+    let claim = shown_claim(alloc, asked, question)?;
+    Ok(Report {
+        text: format!(in alloc; "{told}{ending}{claim}")?,
+        pictures: picture_of_answer(alloc, asked, subject, &answer)?,
+    })
+}
+
+// The answer to a question that each rule gets.
+fn answered_property(
+    alloc: Global,
+    asked: Asked<'_, '_>,
+    subject: Subject<'_>,
+    property: Property,
+) -> Result<Report, Stop>
+    ensures { IfOk result (Tells asked.entry.file.now asked.entry.title.now asked.entry.source.now asked.entry.options.now ((subject.entry, property) ∷ [])) }
+{
+    let source = asked.source;
+    let question = Question::new(alloc, &source.rule, property)?;
+    answered(alloc, asked, &subject, &question)
+}
+
+// The answers to the three questions that each rule gets.
+fn general_answers(alloc: Global, asked: Asked<'_, '_>) -> Result<Report, Stop>
+    ensures { IfOk result (Tells asked.entry.file.now asked.entry.title.now asked.entry.source.now asked.entry.options.now general) }
+{
+    let mut report = answered_property(alloc, asked, Subject::SomeAllowed, Property::Allowed)?;
+    let stuck = answered_property(alloc, asked, Subject::NoneStuck, Property::Stuck)?;
+    let left = answered_property(alloc, asked, Subject::AllowedKept, Property::Left)?;
+    report.append(stuck)?;
+    report.append(left)?;
+    Ok(report)
+}
+
+// The answers to the claims of the file.
+fn claim_answers(
+    alloc: Global,
+    asked: Asked<'_, '_>,
+    claims: &[Claim<'_>],
+) -> Result<Report, Stop>
+    requires { All (Asks asked.source.now) claims.now }
+    ensures { IfOk result (Tells asked.entry.file.now asked.entry.title.now asked.entry.source.now asked.entry.options.now (map of_claim claims.now)) }
+{
+    let mut report = Report {
+        text: String::new(alloc),
+        pictures: Vec::new(alloc),
+    };
     for claim in claims {
         let subject = Subject::Claim(claim.put, claim.name, claim.statement);
-        report.add_question(alloc, asked, &subject, &claim.question)?;
+        report.append(answered(alloc, asked, &subject, &claim.question)?)?;
     }
+    Ok(report)
+}
+
+// The report of a rule and its claims.
+fn report_on(alloc: Global, asked: Asked<'_, '_>, claims: &[Claim<'_>]) -> Result<Report, Stop>
+    requires { All (Asks asked.source.now) claims.now }
+    ensures { IfOk result (Reports asked.entry.file.now asked.entry.title.now asked.entry.source.now asked.entry.options.now claims.now) }
+{
+    let mut report = front(alloc, asked)?;
+    report.append(general_answers(alloc, asked)?)?;
+    report.append(claim_answers(alloc, asked, claims)?)?;
     Ok(report)
 }
 
@@ -111,10 +215,13 @@ fn report_of_source<'s, 't: 's>(
     file: &'s str,
     source: &'s Source<'t>,
     options: &'s Options,
-) -> Result<Report, Stop> {
+) -> Result<Report, Stop>
+    ensures { IfOk result (ReportsClaims file.now source.now options.now) }
+{
     let claims = claims_of(alloc, source)?;
     let asked = Asked {
         file,
+        title: title_of(file),
         source,
         options,
     };
@@ -126,7 +233,9 @@ fn report_of<'x>(
     file: &'x str,
     text: &'x str,
     options: &'x Options,
-) -> Result<Report, Stop> {
+) -> Result<Report, Stop>
+    ensures { IfOk result (Reported file.now text.now options.now) }
+{
     let source = source_of(alloc, text)?;
     report_of_source(alloc, file, &source, options)
 }
@@ -137,7 +246,9 @@ pub fn report_file(
     file: &str,
     text: &str,
     options: &Options,
-) -> Result<Result<Report, String>, AllocError> {
+) -> Result<Result<Report, String>, AllocError>
+    ensures { IfOk result (λ r. IfOk r (Reported file.now text.now options.now)) }
+{
     match report_of(alloc, file, text, options) {
         Ok(report) => Ok(Ok(report)),
         Err(Stop::File(fault)) => {

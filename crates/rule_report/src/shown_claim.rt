@@ -1,5 +1,10 @@
 // The claim of a question: as a text, and as bytes.
+ghost use Rattle.std.specs.Prelude.{◌≡◌, false, true, [], IfOk, suc, string_bytes};
+ghost use Rattle.claims.specs.Trees.{said};
+ghost use Rattle.rule_report.specs.ShownClaim.{IsShown, TellsBytes};
+
 use crate::answer::Asked;
+use crate::options::Options;
 use crate::stop::Stop;
 use claim_text::text::text;
 use claims::encode::{Refusal, encode};
@@ -36,14 +41,47 @@ fn text_of(alloc: Global, asked: Asked<'_, '_>, claim: &Claim) -> Result<String,
 }
 
 // The claim's bytes, in hex digits, or why it has none.
-fn bytes_of(alloc: Global, question: &Question<'_>, claim: &Claim) -> Result<String, Stop> {
+fn bytes_of(alloc: Global, question: &Question<'_>, claim: &Claim) -> Result<String, Stop>
+    ensures { IfOk result (λ words. TellsBytes (suc question.now.rule.now.bits) (said claim.now) (string_bytes words)) }
+{
     match encode(alloc, claim, question.rule.bits as usize + 1) {
         Ok(bytes) => {
             let hex = Hex(&bytes);
             Ok(format!(in alloc; "    bytes {hex}\n")?)
         }
         Err(Refusal::OutOfMemory) => Err(Stop::Memory),
-        Err(refusal) => Ok(format!(in alloc; "    no bytes: {refusal}\n")?),
+        Err(refusal) => {
+            let why = format!(in alloc; "{refusal}\n")?;
+            Ok(format!(in alloc; "    no bytes: {why}")?)
+        }
+    }
+}
+
+// The claim as a text, where it is wanted.
+fn wanted_text(alloc: Global, asked: Asked<'_, '_>, claim: &Claim) -> Result<String, Stop>
+    ensures { IfOk result (λ words. asked.entry.options.now.show ≡ false → string_bytes words ≡ []) }
+{
+    if asked.options.show {
+        text_of(alloc, asked, claim)
+    } else {
+        Ok(String::new(alloc))
+    }
+}
+
+// The claim's bytes, where they are wanted.
+fn wanted_bytes(
+    alloc: Global,
+    options: &Options,
+    question: &Question<'_>,
+    claim: &Claim,
+) -> Result<String, Stop>
+    ensures wanted { IfOk result (λ words. options.now.bytes ≡ true → TellsBytes (suc question.now.rule.now.bits) (said claim.now) (string_bytes words)) }
+    ensures unwanted { IfOk result (λ words. options.now.bytes ≡ false → string_bytes words ≡ []) }
+{
+    if options.bytes {
+        bytes_of(alloc, question, claim)
+    } else {
+        Ok(String::new(alloc))
     }
 }
 
@@ -53,17 +91,14 @@ pub fn shown_claim(
     alloc: Global,
     asked: Asked<'_, '_>,
     question: &Question<'_>,
-) -> Result<String, Stop> {
-    let mut out = String::new(alloc);
+) -> Result<String, Stop>
+    ensures { IfOk result (λ words. IsShown asked.entry.options.now question.now.rule.now question.now.property (string_bytes words)) }
+{
     if !asked.options.show && !asked.options.bytes {
-        return Ok(out);
+        return Ok(String::new(alloc));
     }
     let claim = claim_of(alloc, question.rule, &question.property)?;
-    if asked.options.show {
-        out.push_str(text_of(alloc, asked, &claim)?.as_str())?;
-    }
-    if asked.options.bytes {
-        out.push_str(bytes_of(alloc, question, &claim)?.as_str())?;
-    }
-    Ok(out)
+    let text = wanted_text(alloc, asked, &claim)?;
+    let bytes = wanted_bytes(alloc, asked.options, question, &claim)?;
+    Ok(format!(in alloc; "{text}{bytes}")?)
 }

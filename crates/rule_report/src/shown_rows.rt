@@ -1,5 +1,6 @@
 // A row and the rows after it: as rows of marks, and as a picture.
-ghost use Rattle.std.specs.Prelude.{◌≤◌};
+ghost use Rattle.std.specs.Prelude.{◌≡◌, ◌≤◌, Some, IfOk, map, string_bytes};
+ghost use Rattle.rule_report.specs.ShownRows.{Follows, picture_name, rows_of, rows_shown, step_line};
 
 use diagram::history::History;
 use diagram::svg::{Diagram, svg};
@@ -22,13 +23,32 @@ pub fn history(
     source: &Source<'_>,
     row: &[u32],
     steps: u32,
-) -> Result<History, AllocError> {
+) -> Result<History, AllocError>
+    ensures { IfOk result (Follows source.now.rule row.now steps) }
+{
     let mut history = History::new(alloc, Vec::from_slice(alloc, row)?)?;
-    for _ in 0..steps {
+    for _t in 0..steps {
         let next = step(alloc, source.rule.bits, &source.rule.table, history.last())?;
         history.push(next)?;
     }
     Ok(history)
+}
+
+// What stands before the row of a step: before each but the first its number.
+#[derive(Clone, Copy)]
+struct StepLine(usize);
+
+impl fmt::Display for StepLine {
+    ghost output = { λ line. Some (step_line line.0) };
+
+    fn fmt<W: fmt::Write>(&self, f: &mut fmt::Formatter<W>) -> fmt::Result {
+        let t = self.0;
+        if t == 0 {
+            write!(f, "")
+        } else {
+            write!(f, "    after step {t}\n")
+        }
+    }
 }
 
 /// Rows that print as rows of marks, a line for each bit; before each row but the first stands its step.
@@ -39,23 +59,23 @@ pub struct Rows<'n, 't, 'h> {
 }
 
 impl fmt::Display for Rows<'_, '_, '_> {
+    ghost output = { λ rows. Some (rows_shown (map (λ name. name.now) rows.names.now) 0 (rows_of rows.history.now)) };
+
     fn fmt<W: fmt::Write>(&self, f: &mut fmt::Formatter<W>) -> fmt::Result {
         for (t, row) in self.history.rows.iter().enumerate() {
-            if t > 0 {
-                writeln!(f, "    after step {t}")?;
-            }
+            let step = StepLine(t);
             let marks = Marks {
                 names: self.names,
                 word: row.as_slice(),
             };
-            write!(f, "{marks}")?;
+            write!(f, "{step}{marks}")?;
         }
         Ok(())
     }
 }
 
-// The last part of a path, without its ending.
-fn stem(file: &str) -> &str {
+/// The title of a file's pictures: the last part of its path, without its ending.
+pub fn title_of(file: &str) -> &str {
     let name = file.rsplit('/').next().unwrap_or(file);
     match name.rsplit_once('.') {
         Some((stem, _)) if !stem.is_empty() => stem,
@@ -63,24 +83,25 @@ fn stem(file: &str) -> &str {
     }
 }
 
-/// The picture of the rows: of which file, and what they show.
+/// The picture of the rows: its title, and what they show.
 pub fn draw(
     alloc: Global,
     source: &Source<'_>,
-    file: &str,
+    title: &str,
     subject: &str,
     short: &str,
     history: &History,
-) -> Result<Picture, AllocError> {
-    let stem = stem(file);
+) -> Result<Picture, AllocError>
+    ensures { IfOk result (λ picture. string_bytes picture.name ≡ picture_name title.now short.now) }
+{
     let diagram = Diagram {
-        title: stem,
+        title,
         subject,
         bits: &source.bits.names,
         history,
     };
     Ok(Picture {
-        name: format!(in alloc; "{stem}.{short}.svg")?,
+        name: format!(in alloc; "{title}.{short}.svg")?,
         svg: svg(alloc, &diagram)?,
     })
 }

@@ -1,7 +1,12 @@
 // The command line of `conveyor`.
-use crate::options::Options;
+ghost use Rattle.std.specs.Prelude.{◌≡◌, ◌≢◌, ◌⊎◌};
+ghost use Rattle.clap.specs.Values.{kind_of};
+ghost use Rattle.clap.specs.declared.error.kind.ErrorKind.TheVariants.{DisplayHelp, DisplayVersion};
+ghost use Rattle.rule_command.specs.Wanted.{AreWanted};
+
 use clap::error::Error;
 use clap::{Arg, ArgAction, ArgMatches, Command};
+use rule_report::options::Options;
 use std::alloc::Global;
 
 const ABOUT: &str = "Says what holds of rows of conveyor modules, for rows of every length";
@@ -65,12 +70,17 @@ pub fn parse<'a>(alloc: Global, words: &'a [String]) -> Result<ArgMatches<'a>, E
 }
 
 /// The status with which the program ends where the words are refused, or ask for help or for the version.
-pub fn status_of(error: &Error) -> u8 {
+pub fn status_of(error: &Error) -> u8
+    ensures shown { (kind_of error.now ≡ DisplayHelp) ⊎ (kind_of error.now ≡ DisplayVersion) → result ≡ 0 }
+    ensures mistake { kind_of error.now ≢ DisplayHelp → kind_of error.now ≢ DisplayVersion → result ≡ 1 }
+{
     if error.exit_code() == 0 { 0 } else { 1 }
 }
 
 /// How the report is wanted.
-pub fn options_of(matches: &ArgMatches<'_>) -> Options {
+pub fn options_of(matches: &ArgMatches<'_>) -> Options
+    ensures { AreWanted matches.now result }
+{
     Options {
         most: matches.get_one::<u32>("most"),
         steps: matches.get_one::<u32>("steps").unwrap_or(0),

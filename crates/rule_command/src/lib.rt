@@ -1,0 +1,4 @@
+// The command line of `conveyor`.
+#![tactic(auto)]
+
+pub mod command;

@@ -1,0 +1,9 @@
+use Rattle.std.proofs.Common.{ap, sym, ◌∙◌, get_or, arith}
+use Rattle.rule_report.proofs.ReportedLaws.{tells_more, tells_none}
+use Rattle.rule_report.proofs.report.claim_answers.Goals as goal
+
+pub loop-claim-preserved : goal.loop-claim-preserved
+loop-claim-preserved c =
+    let a = c.args.asked in
+    tells_more a.file.now a.title.now a.source.now a.options.now c.args.claims.now c.loop-claim.claim-index c.claim-item.result c.loop-claim.report c.in_ok-answered.field-0 c.append.new.self (omega arith)
+    c.claim-item.is c.loop-claim.invariant c.in_ok-answered.ensures c.in_ok-append.ensures.text c.in_ok-append.ensures.pictures

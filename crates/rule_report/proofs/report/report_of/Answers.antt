@@ -1,0 +1,14 @@
+use Rattle.std.proofs.lemmas.Result.{IfOk-weaker}
+use Rattle.rule_report.proofs.report.report_of.Goals as goal
+
+pub returns : goal.returns
+returns c =
+    let e = c.in_ok-source.ensures in
+    IfOk-weaker c.report_of_source.result _ _
+    (λ report h. (c.in_ok-source.source, record {
+      file = e.file;
+      text_is = e.text;
+      names = e.names;
+      rule = record { bits = e.bits; patterns = e.patterns; limits = e.limits; lines = e.lines };
+      rows = e.rows;
+    }, h)) c.report_of_source.ensures

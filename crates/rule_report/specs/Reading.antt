@@ -1,0 +1,34 @@
+-- What is read of a rule file, as it is promised of reading it.
+use Rattle.std.specs.Prelude.{◌≡◌, ℕ, List, All, length, map}
+use Rattle.rules.specs.declared.rule.Rule.{Rule}
+use Rattle.rule_file.specs.Claims.{bytes_of}
+use Rattle.rule_file.specs.Covering.{Covers}
+use Rattle.rule_file.specs.Written.{file_tokens}
+use Rattle.rule_file.specs.declared.tree.Line.{Line}
+use Rattle.rule_source.specs.Asking.{Asks}
+use Rattle.rule_source.specs.Claimed.{claims_in}
+use Rattle.rule_source.specs.Counted.{count_of, is_limit, is_line, is_row}
+use Rattle.rule_source.specs.Patterns.{allowed_in}
+use Rattle.rule_source.specs.declared.bits.Bits.{Bits}
+use Rattle.rule_source.specs.declared.claimed.Claim.{Claim}
+use Rattle.rule_source.specs.declared.source.Source.{Source}
+
+-- the statements make this rule
+pub record IsRuleOf (b : Bits) (ls : List Line) (r : Rule) : Type 0 where
+  pub bits : r.bits ≡ length b.names.items
+  pub patterns : r.allowed.items ≡ allowed_in b ls
+  pub limits : length r.limits.items ≡ count_of is_limit ls
+  pub lines : length r.table.items ≡ count_of is_line ls
+
+-- the text of a file is read as this: each statement of the text is in the file, and each that makes the rule, or gives a row, is in these
+pub record IsRead (text : List ℕ) (s : Source) : Type 0 where
+  pub file : Covers text 0 (file_tokens s.file) (length text)
+  pub text_is : s.bits.text.now ≡ text
+  pub names : map (λ n. n.now) s.bits.names.items ≡ map (λ t. bytes_of text t) s.file.bits.items
+  pub rule : IsRuleOf s.bits s.file.lines.items s.rule
+  pub rows : length s.rows.items ≡ count_of is_row s.file.lines.items
+
+-- these are the claims of the file, in their order
+pub record AreClaims (s : Source) (claims : List Claim) : Type 0 where
+  pub statements : map (λ c. c.statement.now) claims ≡ claims_in s.file.lines.items
+  pub each : All (Asks s) claims

@@ -1,0 +1,34 @@
+-- The words of an answer.
+use Rattle.std.specs.Prelude.{◌≡◌, ℕ, ◌+◌, ◌≤◌, ◌==◌, None, Some, List, [], ◌++◌, length, take, count_by, codes}
+use Rattle.std.specs.Fmt.{decimal}
+use Rattle.trees.specs.Position.{column_from}
+use Rattle.trees.specs.declared.position.Span.{Span}
+use Rattle.rule_report.specs.declared.answer.Answer.{Answer}
+use Rattle.rule_report.specs.declared.answer.Answer.TheVariants.{Never, First, TooLarge, Refused}
+use Rattle.rule_report.specs.declared.subject.Subject.{Subject}
+use Rattle.rule_report.specs.ShownRows.{rows_of, rows_shown}
+use Rattle.rule_report.specs.Subjects.{name_of, settled_of, found_of}
+
+-- what is claimed and what is found, where the bits have these names
+abbrev pub told : List (List ℕ) → Subject → Answer → List ℕ
+told names s Never = codes "  " ++ (name_of s ++ (codes ": " ++ (settled_of s ++ codes "\n")))
+told names s (First h) = codes "  " ++ (name_of s ++ (codes ": " ++ (found_of s ++ (codes " " ++ (decimal h.modules ++ (codes "\n" ++ rows_shown names 0 (rows_of h)))))))
+told names s (TooLarge n place) = codes "  " ++ (name_of s ++ (codes ": too large: more than " ++ (decimal n ++ codes " classes are told apart at ")))
+told names s (Refused e) = codes "  " ++ (name_of s ++ codes ": too large: ")
+
+-- the line and the column of a place in the file, and behind them what its line is
+pub record PlacedAt (file text : List ℕ) (span : Span) (words : List ℕ) : Type 0 where
+  pub line : ℕ
+  pub column : ℕ
+  pub shown : List ℕ
+  pub words_are : words ≡ file ++ (codes ":" ++ (decimal line ++ (codes ":" ++ (decimal column ++ (codes "\n" ++ shown)))))
+  pub line_is : span.start ≤ length text → line ≡ count_by (λ b. b == 10) (take span.start text) + 1
+  pub column_is : span.start ≤ length text → column ≡ column_from 1 (take span.start text)
+
+-- what stands behind: where it is too large; of a refusal, in words, why
+abbrev pub Ends : List ℕ → List ℕ → Answer → List ℕ → Type 0
+Ends file text Never words = words ≡ []
+Ends file text (First h) words = words ≡ []
+Ends file text (TooLarge n None) words = words ≡ file ++ codes ", whatever its lines say\n"
+Ends file text (TooLarge n (Some span)) words = PlacedAt file text span words
+Ends file text (Refused e) words = Unit {0}
