@@ -1,12 +1,12 @@
 -- One token more, and the gap behind it.
 use Rattle.std.proofs.Common.{◌≡◌, ℕ, ◌+◌, ◌-◌, ◌<◌, ◌≤◌, IsTrue, List, [], ◌∷◌, ◌++◌, length, take, drop, sym, subst, arith}
-use Rattle.syntax.specs.declared.token.Token.{Token}
+use Rattle.tokens.specs.declared.token.Token.{Token}
 use Rattle.std.specs.Prelude.{slice_range}
 use Rattle.std.proofs.lemmas.List.{take_rest}
-use Rattle.syntax.specs.declared.token.Kind.{Kind}
-use Rattle.syntax.specs.Gaps.{is_gap}
-use Rattle.syntax.specs.Spelling.{Spells}
-use Rattle.syntax.specs.Covering.{Covers}
+use Rattle.tokens.specs.declared.kind.Kind.{Kind}
+use Rattle.tokens.specs.Gaps.{is_gap}
+use Rattle.tokens.specs.Spelling.{Spells}
+use Rattle.tokens.specs.Covering.{Covers}
 
 pub covers_push : (text : List ℕ) (a : ℕ) (ts : List Token) (t : Token) (g : ℕ) → Covers text a ts t.span.start → t.span.start < t.span.end → Spells t.kind (slice_range text t.span.start t.span.end) → t.span.end + g ≤ length text → IsTrue (is_gap (take g (drop t.span.end text))) → Covers text a (ts ++ t ∷ []) (t.span.end + g)
 covers_push text a [] t g h lt spells within gap =

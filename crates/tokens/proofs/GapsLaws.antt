@@ -1,7 +1,7 @@
 -- Blanks and comments, as they are counted.
 use Rattle.std.proofs.Common.{◌≡◌, ℕ, suc, ◌-◌, ◌≤◌, Bool, true, false, IsTrue, List, [], ◌∷◌, length, take, drop, refl, subst, arith, if◌then◌else◌}
 use Rattle.std.proofs.lemmas.List.{take_rest}
-use Rattle.syntax.specs.Gaps.{goes_on, in_comment, is_gap_from, is_gap, gap_len}
+use Rattle.tokens.specs.Gaps.{goes_on, in_comment, is_gap_from, is_gap, gap_len}
 
 counted : (c : Bool) (s : List ℕ) → is_gap_from c (take (gap_len c s) s) ≡ true
 counted c [] = refl

@@ -1,6 +1,6 @@
 use Rattle.std.proofs.Common.{◌≡◌, ◌+◌, length, false}
-use Rattle.syntax.specs.Gaps.{gap_len}
-use Rattle.syntax.proofs.token.blanks.Given as goal
+use Rattle.tokens.specs.Gaps.{gap_len}
+use Rattle.tokens.proofs.gap.blanks.Given as goal
 
 abbrev pub invariant-loop-rest : goal.invariant-loop-rest
 invariant-loop-rest l = record {

@@ -1,8 +1,8 @@
 -- The tokens of a text, in the order in which they stand, and nothing but blanks and comments between them.
 use Rattle.std.specs.Prelude.{ℕ, ◌<◌, ◌≤◌, IsTrue, List, [], ◌∷◌, length, slice_range}
-use Rattle.syntax.specs.declared.token.Token.{Token}
-use Rattle.syntax.specs.Gaps.{is_gap}
-use Rattle.syntax.specs.Spelling.{Spells}
+use Rattle.tokens.specs.declared.token.Token.{Token}
+use Rattle.tokens.specs.Gaps.{is_gap}
+use Rattle.tokens.specs.Spelling.{Spells}
 
 -- each token has at least one byte, and its bytes are what its kind says; before the first, which begins at `from` or behind, between two, and from the last up to `to` stand blanks and comments only
 abbrev pub Covers : List ℕ → ℕ → List Token → ℕ → Type 0
