@@ -4,7 +4,7 @@ use Rattle.std.specs.List.{prefix_len, starts_with}
 use Rattle.tokens.specs.declared.kind.Kind.{Kind}
 use Rattle.tokens.specs.declared.kind.Kind.TheVariants as kind
 use Rattle.tokens.specs.Gaps.{goes_on}
-use Rattle.tokens.specs.Spelling.{is_digit, is_letter, in_name}
+use Rattle.tokens.specs.Spelling.{is_digit, is_letter, in_name, each}
 use Rattle.tokens.specs.Scan.{signs, sign_in, sign_at, word_kind, number_front, word_front, front}
 
 -- a byte that ends numbers, words and signs
@@ -114,3 +114,23 @@ front_no_gap b s r h = go (goes_on false b) refl where
   go : (p : Bool) → goes_on false b ≡ p → p ≡ false
   go false e = refl
   go true e = absurd (none_some r (front (b ∷ s)) (blank_front b s (is_gap_byte b e)) h)
+
+count_all : (p : ℕ → Bool) (d : List ℕ) → each p d ≡ true → prefix_len p d ≡ length d
+count_all p [] h = refl
+count_all p (b ∷ d) h = go (p b) (λ i. count_all p d i) h where
+  go : (q : Bool) → (each p d ≡ true → prefix_len p d ≡ length d) → q && each p d ≡ true → (if q then 1 + prefix_len p d else 0) ≡ suc (length d)
+  go true f i = let c = f i in omega (arith, c)
+  go false f i = cc
+
+first_holds : (p : ℕ → Bool) (b : ℕ) (d : List ℕ) → each p (b ∷ d) ≡ true → p b ≡ true
+first_holds p b d h = go (p b) refl h where
+  go : (q : Bool) → p b ≡ q → q && each p d ≡ true → q ≡ true
+  go true e i = refl
+  go false e i = i
+
+-- digits are a number
+pub digits_front : (d : List ℕ) → each is_digit d ≡ true → 0 < length d → front d ≡ Some (kind.Number, length d)
+digits_front [] h lt = absurd (omega (arith, lt))
+digits_front (b ∷ d) h lt =
+    let first : is_digit b ≡ true = first_holds is_digit b d h in
+    ap (λ q. if q then number_front (b ∷ d) else if is_letter b then word_front (b ∷ d) else sign_at (b ∷ d)) first ∙ ap (λ n. Some (kind.Number, n)) (count_all is_digit (b ∷ d) h)

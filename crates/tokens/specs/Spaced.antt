@@ -49,3 +49,9 @@ IsAlone (word k d) = front d ≡ Some (k, length d)
 abbrev pub AreAlone : List Word → Type 0
 AreAlone [] = Unit {0}
 AreAlone (w ∷ ws) = IsAlone w × AreAlone ws
+
+-- each name among words is one that stands alone
+abbrev pub NamesAlone : List Word → Type 0
+NamesAlone [] = Unit {0}
+NamesAlone (word kind.Name d ∷ ws) = (front d ≡ Some (kind.Name, length d)) × NamesAlone ws
+NamesAlone (word k d ∷ ws) = NamesAlone ws
