@@ -7,9 +7,10 @@ use Rattle.trees.specs.declared.tree.Binary.{Binary}
 use Rattle.trees.specs.declared.tree.Expr.{Expr, Listed, Listed', Call, Call', Row_of-Expr, end_of-Expr, more_of-Expr, items-the_row-Expr, items_hidden-the_row-Expr-0}
 use Rattle.syntax.specs.declared.fault.Fault.{Fault}
 use Rattle.syntax.specs.declared.fault.Fault.TheVariants.{Expected, Byte, LargeNumber, Deep, Memory}
-use Rattle.syntax.specs.declared.token.Kind.{Kind}
-use Rattle.syntax.specs.declared.token.Kind.TheVariants as kind
-use Rattle.syntax.specs.Plain.{Word, Plain, joined, listed, call, Plains, none, more}
+use Rattle.tokens.specs.declared.kind.Kind.{Kind}
+use Rattle.tokens.specs.declared.kind.Kind.TheVariants as kind
+use Rattle.tokens.specs.Words.{Word}
+use Rattle.syntax.specs.Plain.{Plain, joined, listed, call, Plains, none, more}
 use Rattle.syntax.specs.Parsing.{Stop, Reader, ◌>>=◌, right_of, operator, begins, tail, behind, within, operand, climb, parse, more_items, items, up_to, push, depth, depths}
 use Rattle.syntax.specs.Views.{Fails, view, views, view_all}
 

@@ -1,12 +1,13 @@
 -- Items that were written are read again.
 use Rattle.std.proofs.Common.{ℕ, zero, suc, ◌<◌, ◌≤◌, ◌≡◌, List, [], ◌∷◌, ◌++◌, false, Some, Ok, refl, sym, ap, ◌∙◌, arith, length, map, append_assoc, append-nil}
-use Rattle.syntax.specs.declared.token.Kind.TheVariants as kind
+use Rattle.tokens.specs.declared.kind.Kind.TheVariants as kind
 use Rattle.trees.specs.declared.tree.Unary.TheVariants as unary
 use Rattle.trees.specs.declared.tree.Sort.{Sort}
 use Rattle.trees.specs.declared.tree.Sort.TheVariants.{Place, Set}
 use Rattle.trees.specs.declared.tree.Quantifier.{Quantifier}
 use Rattle.trees.specs.declared.tree.Quantifier.TheVariants as quantifier
-use Rattle.syntax.specs.Plain.{Word, word, Plain, number, prefixed, joined, bound, sign_of, quantifier_of, colon, semicolon, close, names, written}
+use Rattle.tokens.specs.Words.{Word, word}
+use Rattle.syntax.specs.Plain.{Plain, number, prefixed, joined, bound, sign_of, quantifier_of, colon, semicolon, close, names, written}
 use Rattle.syntax.specs.Parsing.{Reader, begins, parse}
 use Rattle.syntax.specs.Grammar.{bare, AreNames, IsText}
 use Rattle.syntax.specs.Items.{PlainItem, free, predicate, assumed, claimed, sort_of, more_parameters, parameters_at, formula_at, claimed_at, item_at, more_read, read_words, sort_word, parameters, parameters_more, equal, written_item, written_items, bare_item, IsFormula, AreParameters, IsItem, AreItems}

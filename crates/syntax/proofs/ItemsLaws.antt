@@ -4,11 +4,10 @@ use Rattle.std.proofs.lemmas.List.{map_push}
 use Rattle.trees.specs.declared.tree.Sort.{Sort}
 use Rattle.trees.specs.declared.tree.Parameter.{Parameter}
 use Rattle.trees.specs.declared.tree.Item.{Item}
-use Rattle.syntax.specs.declared.token.Token.{Token}
-use Rattle.syntax.specs.declared.token.Kind.TheVariants as kind
-use Rattle.syntax.specs.Plain.{Word}
+use Rattle.tokens.specs.declared.token.Token.{Token}
+use Rattle.tokens.specs.declared.kind.Kind.TheVariants as kind
+use Rattle.tokens.specs.Words.{Word, words}
 use Rattle.syntax.specs.Parsing.{Stop, Reader, begins, tail, name, parse}
-use Rattle.syntax.specs.Views.{words}
 use Rattle.syntax.specs.Items.{PlainItem, view_parameter, view_parameters, view_item, view_items, sort_of, given, behind_sort, more_parameters, item_at, header, more_read, read_words}
 
 pub parameters_push : (ps : List Parameter) (p : Parameter) → view_parameters (ps ++ p ∷ []) ≡ view_parameters ps ++ view_parameter p ∷ []

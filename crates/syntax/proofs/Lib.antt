@@ -1,7 +1,4 @@
 -- Lemmas on the tokens of a text and on reading them.
-pub mod GapsLaws
-pub mod SpellingLaws
-pub mod CoveringLaws
 pub mod AsciiLaws
 pub mod NamesLaws
 pub mod WrittenLaws
@@ -11,3 +8,5 @@ pub mod ItemsLaws
 pub mod ItemsAgain
 pub mod ParseLaws
 pub mod PrintedLaws
+pub mod AloneLaws
+pub mod TextLaws

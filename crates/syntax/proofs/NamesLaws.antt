@@ -1,9 +1,9 @@
 -- Names with commas between them, read one after the other.
 use Rattle.std.proofs.Common.{ℕ, zero, suc, ◌≡◌, ◌<◌, List, [], ◌∷◌, ◌++◌, true, false, Ok, Err, refl, sym, arith, string_bytes}
 use Rattle.std.proofs.lemmas.List.{map-append}
-use Rattle.syntax.specs.declared.token.Kind.TheVariants as kind
+use Rattle.tokens.specs.declared.kind.Kind.TheVariants as kind
 use Rattle.trees.specs.declared.tree.Name.{Name}
-use Rattle.syntax.specs.Plain.{Word}
+use Rattle.tokens.specs.Words.{Word}
 use Rattle.syntax.specs.Parsing.{Stop, begins, tail, name, names_at, more_names}
 use Rattle.syntax.specs.Views.{names_of}
 

@@ -1,10 +1,10 @@
 -- What a call gave, said of what is equal to it.
 use Rattle.std.proofs.Common.{◌≡◌, ℕ, Bool, List, [], ◌∷◌, Ok, Err, Result, IfOk, refl, sym, subst, ap, arith, length, map, ◌∙◌, ◌≤◌}
 use Rattle.syntax.specs.declared.fault.Fault.{Fault}
-use Rattle.syntax.specs.declared.token.Token.{Token}
-use Rattle.syntax.specs.Plain.{Word}
+use Rattle.tokens.specs.declared.token.Token.{Token}
+use Rattle.tokens.specs.Words.{Word, words}
 use Rattle.syntax.specs.Parsing.{Stop}
-use Rattle.syntax.specs.Views.{words, Gives}
+use Rattle.syntax.specs.Views.{Gives}
 use Rattle.syntax.specs.Items.{PlainItem, read_words, written_items, bare_item, AreItems}
 use Rattle.syntax.specs.Printed.{text_item, AreTreeItems}
 use Rattle.syntax.proofs.ItemsAgain.{items_again}

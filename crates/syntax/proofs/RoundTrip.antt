@@ -1,14 +1,15 @@
 -- What was written is read again.
 use Rattle.std.proofs.Common.{ℕ, zero, suc, ◌<◌, ◌≤◌, ◌≡◌, min, List, [], ◌∷◌, true, false, length, None, Ok, refl, ap, ◌∙◌, arith}
-use Rattle.syntax.specs.declared.token.Kind.{Kind}
-use Rattle.syntax.specs.declared.token.Kind.TheVariants as kind
+use Rattle.tokens.specs.declared.kind.Kind.{Kind}
+use Rattle.tokens.specs.declared.kind.Kind.TheVariants as kind
 use Rattle.trees.specs.declared.tree.Unary.TheVariants as unary
 use Rattle.trees.specs.declared.tree.Binary.{Binary}
 use Rattle.trees.specs.declared.tree.Sort.{Sort}
 use Rattle.trees.specs.declared.tree.Sort.TheVariants.{Place, Set}
 use Rattle.trees.specs.declared.tree.Quantifier.{Quantifier}
 use Rattle.trees.specs.declared.tree.Quantifier.TheVariants as quantifier
-use Rattle.syntax.specs.Plain.{Word, word, Plain, yes, no, nowhere, number, digits, named, paren, listed, prefixed, joined, bound, call, Plains, none, more, sign_of, quantifier_of, colon, close, close_set, names, written, list, list_more}
+use Rattle.tokens.specs.Words.{Word, word}
+use Rattle.syntax.specs.Plain.{Plain, yes, no, nowhere, number, digits, named, paren, listed, prefixed, joined, bound, call, Plains, none, more, sign_of, quantifier_of, colon, close, close_set, names, written, list, list_more}
 use Rattle.syntax.specs.Parsing.{Reader, ◌>>=◌, level_of, right_of, operator, begins, more_items, items, whole, quantified, operand, climb, parse, depth, depths, value, MOST, push}
 use Rattle.syntax.specs.Grammar.{bare, bares, spine, grab, IsText, AreTexts, opens, opens_each}
 use Rattle.syntax.proofs.WrittenLaws.{Stops, lt_false, sign_is, sign_no_open, tight, loose, stops_tighter, longer, list_longer, names_at_longer, names_again, pushes, pushes_one}

@@ -1,10 +1,11 @@
 -- Signs and names as they are written, and how long what is written is.
 use Rattle.std.proofs.Common.{ℕ, zero, suc, ◌<◌, ◌≤◌, ◌≡◌, List, [], ◌∷◌, ◌++◌, true, false, length, Option, Some, None, Ok, refl, ap, ◌∙◌, arith, append_assoc, append-nil, nat_lt, nat_le}
-use Rattle.syntax.specs.declared.token.Kind.TheVariants as kind
+use Rattle.tokens.specs.declared.kind.Kind.TheVariants as kind
 use Rattle.trees.specs.declared.tree.Unary.TheVariants as unary
 use Rattle.trees.specs.declared.tree.Binary.{Binary}
 use Rattle.trees.specs.declared.tree.Binary.TheVariants as binary
-use Rattle.syntax.specs.Plain.{Word, word, Plain, number, paren, listed, prefixed, joined, bound, call, Plains, none, more, sign_of, colon, close, close_set, names, names_more, written, list, list_more}
+use Rattle.tokens.specs.Words.{Word, word}
+use Rattle.syntax.specs.Plain.{Plain, number, paren, listed, prefixed, joined, bound, call, Plains, none, more, sign_of, colon, close, close_set, names, names_more, written, list, list_more}
 use Rattle.syntax.specs.Parsing.{level_of, binary_of, if_tight, operator, begins, more_names, names_at, push}
 use Rattle.syntax.specs.Grammar.{AreAscii, AreNames}
 

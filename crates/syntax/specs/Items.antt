@@ -1,13 +1,14 @@
 -- The items of a text: how they are written as words, and how words are read as items.
 use Rattle.std.specs.Prelude.{ℕ, zero, suc, ◌≡◌, ◌≤◌, ◌<◌, List, [], ◌∷◌, ◌++◌, true, map, if◌then◌else◌, Option, Some, None, Result, Ok, Err, string_bytes}
-use Rattle.syntax.specs.declared.token.Kind.{Kind}
-use Rattle.syntax.specs.declared.token.Kind.TheVariants as kind
+use Rattle.tokens.specs.declared.kind.Kind.{Kind}
+use Rattle.tokens.specs.declared.kind.Kind.TheVariants as kind
 use Rattle.trees.specs.declared.tree.Sort.{Sort}
 use Rattle.trees.specs.declared.tree.Sort.TheVariants.{Place, Set}
 use Rattle.trees.specs.declared.tree.Parameter.{Parameter}
 use Rattle.trees.specs.declared.tree.Item.{Item}
 use Rattle.trees.specs.declared.tree.Item.TheVariants.{Free, Predicate as Defined, Assert, Formula}
-use Rattle.syntax.specs.Plain.{Word, word, Plain, names, written, semicolon, comma, open_, close}
+use Rattle.tokens.specs.Words.{Word, word}
+use Rattle.syntax.specs.Plain.{Plain, names, written, semicolon, comma, open_, close}
 use Rattle.syntax.specs.Parsing.{Stop, wrong, Read, Reader, ◌>>=◌, begins, behind, tail, ascii, name, names_at, parse, depth, MOST}
 use Rattle.syntax.specs.Grammar.{bare, AreNames, IsText, opens}
 use Rattle.syntax.specs.Views.{names_of, view}

@@ -1,7 +1,4 @@
 -- What the contracts of the readable form's text cite.
-pub mod Gaps
-pub mod Spelling
-pub mod Covering
 pub mod Plain
 pub mod Parsing
 pub mod Grammar

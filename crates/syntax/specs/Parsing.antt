@@ -1,9 +1,9 @@
 -- How words are read as a tree.
 use Rattle.std.specs.Prelude.{ℕ, zero, suc, ◌+◌, ◌*◌, ◌-◌, min, max, List, [], ◌∷◌, ◌++◌, Bool, true, false, ◌&&◌, if◌then◌else◌, nat_lt, nat_le, Option, Some, None, Result, Ok, Err}
 use denote.Enum.Bare.{sameb}
-use Rattle.syntax.specs.contracts.token.Kind.{the_type}
-use Rattle.syntax.specs.declared.token.Kind.{Kind}
-use Rattle.syntax.specs.declared.token.Kind.TheVariants as kind
+use Rattle.tokens.specs.contracts.kind.Kind.{the_type}
+use Rattle.tokens.specs.declared.kind.Kind.{Kind}
+use Rattle.tokens.specs.declared.kind.Kind.TheVariants as kind
 use Rattle.trees.specs.declared.tree.Unary.{Unary}
 use Rattle.trees.specs.declared.tree.Unary.TheVariants as unary
 use Rattle.trees.specs.declared.tree.Binary.{Binary}
@@ -12,7 +12,8 @@ use Rattle.trees.specs.declared.tree.Sort.{Sort}
 use Rattle.trees.specs.declared.tree.Sort.TheVariants.{Place, Set}
 use Rattle.trees.specs.declared.tree.Quantifier.{Quantifier}
 use Rattle.trees.specs.declared.tree.Quantifier.TheVariants as quantifier
-use Rattle.syntax.specs.Plain.{Word, word, Plain, yes, no, nowhere, number, named, listed, prefixed, joined, bound, call, Plains, none, more}
+use Rattle.tokens.specs.Words.{Word, word}
+use Rattle.syntax.specs.Plain.{Plain, yes, no, nowhere, number, named, listed, prefixed, joined, bound, call, Plains, none, more}
 
 -- why words are not read: they are of no such form, or what they say is larger than may be
 pub data Stop : Type 0 where

@@ -1,7 +1,7 @@
 -- Trees without the places of their parts in the text, with each parenthesis, and how they are written as words.
 use Rattle.std.specs.Prelude.{ℕ, List, [], ◌∷◌}
-use Rattle.syntax.specs.declared.token.Kind.{Kind}
-use Rattle.syntax.specs.declared.token.Kind.TheVariants as kind
+use Rattle.tokens.specs.declared.kind.Kind.TheVariants as kind
+use Rattle.tokens.specs.Words.{Word, word}
 use Rattle.trees.specs.declared.tree.Unary.{Unary}
 use Rattle.trees.specs.declared.tree.Unary.TheVariants as unary
 use Rattle.trees.specs.declared.tree.Binary.{Binary}
@@ -10,10 +10,6 @@ use Rattle.trees.specs.declared.tree.Sort.{Sort}
 use Rattle.trees.specs.declared.tree.Sort.TheVariants.{Place, Set}
 use Rattle.trees.specs.declared.tree.Quantifier.{Quantifier}
 use Rattle.trees.specs.declared.tree.Quantifier.TheVariants as quantifier
-
--- a token: its kind and its bytes
-pub data Word : Type 0 where
-  word : Kind → List ℕ → Word
 
 -- `paren` is an expression in parentheses, `digits` a number as it is written
 mutual

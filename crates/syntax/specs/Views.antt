@@ -1,22 +1,14 @@
--- What the contracts of reading see of the code's values: words for tokens, trees without places, and what a fault says of reading.
-use Rattle.std.specs.Prelude.{ℕ, ◌≡◌, ◌&&◌, if◌then◌else◌, nat_le, List, [], ◌∷◌, map, length, slice_range, Result, Ok, Err, string_bytes}
+-- What the contracts of reading see of the code's values: trees without places, and what a fault says of reading.
+use Rattle.std.specs.Prelude.{ℕ, ◌≡◌, List, [], ◌∷◌, map, Result, Ok, Err, string_bytes}
 use Rattle.trees.specs.declared.tree.Name.{Name}
 use Rattle.trees.specs.declared.tree.Expr.{Expr, Row_of-Expr, end_of-Expr, more_of-Expr}
 use Rattle.trees.specs.declared.tree.Expr.TheVariants.{True, False, Empty, Number, Named, Listed', Unary', Binary', Bound', Call'}
-use Rattle.syntax.specs.declared.token.Token.{Token}
+use Rattle.tokens.specs.declared.token.NoToken.{NoToken}
+use Rattle.tokens.specs.declared.token.NoToken.TheVariants as no_token
 use Rattle.syntax.specs.declared.fault.Fault.{Fault}
 use Rattle.syntax.specs.declared.fault.Fault.TheVariants.{Expected, Byte, LargeNumber, Deep, Memory}
-use Rattle.syntax.specs.Plain.{Word, word, Plain, yes, no, nowhere, number, named, listed, prefixed, joined, bound, call, Plains, none, more}
+use Rattle.syntax.specs.Plain.{Plain, yes, no, nowhere, number, named, listed, prefixed, joined, bound, call, Plains, none, more}
 use Rattle.syntax.specs.Parsing.{Stop, wrong, beyond}
-
--- the bytes of a token, as far as they are in the text
-abbrev pub bytes_of : List ℕ → Token → List ℕ
-bytes_of text t = if nat_le t.span.start t.span.end && nat_le t.span.end (length text) then slice_range text t.span.start t.span.end else []
-
--- tokens as words
-abbrev pub words : List ℕ → List Token → List Word
-words text [] = []
-words text (t ∷ ts) = word t.kind (bytes_of text t) ∷ words text ts
 
 abbrev pub names_of : List Name → List (List ℕ)
 names_of xs = map (λ x. string_bytes x.text) xs
@@ -42,6 +34,11 @@ abbrev mutual
 abbrev pub view_all : List Expr → Plains
 view_all [] = none
 view_all (x ∷ xs) = more (view x) (view_all xs)
+
+-- the fault that a text without tokens has
+abbrev pub fault_of : NoToken → Fault
+fault_of (no_token.Byte s) = Byte s
+fault_of no_token.Memory = Memory
 
 -- what a fault says of reading: it cannot be read so, or something is too large; of memory it says nothing
 abbrev pub Fails : {Y : Type 0} → Fault → Result Y Stop → Type 0

@@ -2,44 +2,23 @@
 // An expression is an operand and the operators behind it, as long as they bind tight enough; what stands right of an operator is an expression whose
 // operators bind tighter. A quantifier and `~` take as much behind them as they can.
 ghost use Rattle.std.specs.Prelude.{◌≡◌, ℕ, ◌+◌, ◌<◌, ◌≤◌, ◌∷◌, length, max, IfOk, string_bytes};
-ghost use Rattle.syntax.specs.declared.token.Kind.TheVariants as kind;
+ghost use Rattle.tokens.specs.declared.kind.Kind.TheVariants as kind;
 ghost use Rattle.syntax.specs.Plain.{joined, bound, listed, call, none};
 ghost use Rattle.syntax.specs.Parsing.{parse, operand, operand_of, prefix, quantified, set_at, items, named_at, arguments, paren_at, empty_at, within, lowest_of, depth, depths};
-ghost use Rattle.syntax.specs.Views.{words, Gives, view, view_all};
+ghost use Rattle.tokens.specs.Words.{words};
+ghost use Rattle.syntax.specs.Views.{Gives, view, view_all};
 
 use crate::fault::{Fault, Wanted};
-use crate::operators::{EXTREME, NOT, tightness_of};
+use crate::operators::tightness_of;
+use crate::part::{Listing, Part, call_of, called_alone, joined, leaf, lowest, set_of, within};
 use crate::source::{Source, front, name, names, number, operator, span, token};
-use crate::token::{Kind, Token};
+use tokens::kind::Kind;
+use tokens::token::Token;
 use trees::position::Span;
 use trees::tree::{Binary, Expr, Name, Quantifier, Sort, Unary};
 
-/// How many parts may stand within one another.
-pub const MOST_DEPTH: u32 = 1000;
 /// How many expressions may be open, one within the other: a part takes one, and so do parentheses.
 pub const MOST_OPEN: u32 = 2000;
-
-/// An expression that was read, and how many parts of it stand within one another.
-#[derive(Drop)]
-pub struct Part {
-    pub expr: Expr,
-    pub depth: u32,
-}
-
-// A tree around parts of a depth, if not too many stand within one another.
-fn within(at: Span, expr: Expr, inside: u32) -> Result<Part, Fault>
-    requires inside { depth (view expr) ≡ inside + 1 }
-    ensures gives { Gives (λ p. view p.expr) result (within (view expr)) }
-    ensures depth { IfOk result (λ p. p.depth ≡ depth (view p.expr)) }
-{
-    if inside >= MOST_DEPTH {
-        return Err(Fault::Deep(at));
-    }
-    Ok(Part {
-        expr,
-        depth: inside + 1,
-    })
-}
 
 /// An expression whose operators bind at least as tight as `lowest`.
 #[cycle(reading)]
@@ -65,85 +44,6 @@ pub fn expression<'a>(
         rest = more;
     }
     Ok((left, rest))
-}
-
-// An operator with what stands left and right of it; `behind` is what follows.
-fn joined(
-    source: &Source<'_>,
-    binary: Binary,
-    left: Part,
-    right: Part,
-    behind: &[Token],
-) -> Result<Part, Fault>
-    requires left { left.depth ≡ depth (view left.expr) }
-    requires right { right.depth ≡ depth (view right.expr) }
-    ensures gives { Gives (λ p. view p.expr) result (within (joined binary (view left.expr) (view right.expr))) }
-    ensures depth { IfOk result (λ p. p.depth ≡ depth (view p.expr)) }
-{
-    let inside = left.depth.max(right.depth);
-    let place = left.expr.span().to(right.expr.span());
-    let first = Box::new(source.heap, left.expr)?;
-    let second = Box::new(source.heap, right.expr)?;
-    within(
-        span(source, behind),
-        Expr::Binary(binary, first, second, place),
-        inside,
-    )
-}
-
-// A set that lists places.
-fn set(all: Vec<Expr>, place: Span) -> Expr
-    ensures { view result ≡ listed (view_all all.items) }
-{
-    Expr::Listed(all, place)
-}
-
-// A predicate with its arguments.
-fn called(name: Name, all: Vec<Expr>, place: Span) -> Expr
-    ensures { view result ≡ call (string_bytes name.text) (view_all all.items) }
-{
-    Expr::Call(name, all, place)
-}
-
-// A predicate without arguments.
-fn called_alone(source: &Source<'_>, name: Name, place: Span) -> Part
-    ensures expr { view result.expr ≡ call (string_bytes name.text) none }
-    ensures depth { result.depth ≡ 1 }
-{
-    let none = Vec::new(source.heap);
-    Part {
-        expr: called(name, none, place),
-        depth: 1,
-    }
-}
-
-// Expressions that were read, how many parts of one stand within one another, and where the sign behind them stands.
-#[derive(Drop)]
-struct Listing {
-    all: Vec<Expr>,
-    depth: u32,
-    close: Span,
-}
-
-// A set that lists places, from the sign at `at` on.
-fn set_of(at: Span, list: Listing) -> Result<Part, Fault>
-    requires deep { list.depth ≡ depths (view_all list.all.items) }
-    ensures gives { Gives (λ p. view p.expr) result (within (listed (view_all list.all.items))) }
-    ensures depth { IfOk result (λ p. p.depth ≡ depth (view p.expr)) }
-{
-    let place = at.to(list.close);
-    within(at, set(list.all, place), list.depth)
-}
-
-// A predicate with these arguments.
-fn call_of(name: Name, list: Listing) -> Result<Part, Fault>
-    requires deep { list.depth ≡ depths (view_all list.all.items) }
-    ensures gives { Gives (λ p. view p.expr) result (within (call (string_bytes name.text) (view_all list.all.items))) }
-    ensures depth { IfOk result (λ p. p.depth ≡ depth (view p.expr)) }
-{
-    let at = name.span;
-    let place = at.to(list.close);
-    within(at, called(name, list.all, place), list.depth)
 }
 
 // What an operator stands between.
@@ -184,25 +84,6 @@ fn operand<'a>(
         Kind::False => Ok((leaf(Expr::False(at)), rest)),
         Kind::Number => Ok((leaf(Expr::Number(number(source, *first)?, at)), rest)),
         _ => Err(Fault::Expected(Wanted::Operand, at)),
-    }
-}
-
-// An expression without parts.
-fn leaf(expr: Expr) -> Part
-    requires { depth (view expr) ≡ 1 }
-    ensures expr { result.expr ≡ expr }
-    ensures depth { result.depth ≡ 1 }
-{
-    Part { expr, depth: 1 }
-}
-
-// How tight the operand of a sign or word before it has to bind.
-fn lowest(unary: Unary) -> u8
-    ensures { result ≡ lowest_of unary }
-{
-    match unary {
-        Unary::Not => NOT + 1,
-        _ => EXTREME + 1,
     }
 }
 

@@ -1,8 +1,11 @@
 // What is wrong with a text: where it stands, what was expected and what stands there.
 ghost use Rattle.std.specs.Prelude.{◌≡◌};
+ghost use Rattle.syntax.specs.Views.{fault_of};
 ghost use Rattle.syntax.specs.declared.fault.Fault.TheVariants.{Memory};
 
-use crate::token::{Kind, foreign_reason, spelling};
+use tokens::foreign::foreign_reason;
+use tokens::kind::{Kind, spelling};
+use tokens::token::NoToken;
 use std::alloc::{AllocError, AllocFailed, Global};
 use std::str::from_utf8;
 use trees::position::Span;
@@ -40,6 +43,17 @@ impl<T: Drop> From<AllocFailed<T>> for Fault {
 
     fn from(_error: AllocFailed<T>) -> Fault {
         Fault::Memory
+    }
+}
+
+impl From<NoToken> for Fault {
+    ghost from_gives = { λ e f. f ≡ fault_of e };
+
+    fn from(error: NoToken) -> Fault {
+        match error {
+            NoToken::Byte(span) => Fault::Byte(span),
+            NoToken::Memory => Fault::Memory,
+        }
     }
 }
 

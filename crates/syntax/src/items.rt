@@ -1,13 +1,15 @@
 // Reads the items of a text, each ended by a semicolon. Each function reads what the tokens begin with, and gives it with the tokens behind it.
 ghost use Rattle.std.specs.Prelude.{◌≡◌, ℕ, ◌+◌, ◌<◌, ◌≤◌, ◌∷◌, [], length, IfOk, IfSome, MatchOption, Some, None, string_bytes};
 ghost use Rattle.syntax.specs.Parsing.{parse, tail};
-ghost use Rattle.syntax.specs.Views.{words, Gives, view};
+ghost use Rattle.tokens.specs.Words.{words};
+ghost use Rattle.syntax.specs.Views.{Gives, view};
 ghost use Rattle.syntax.specs.Items.{PlainItem, view_parameter, view_parameters, view_item, view_items, sort_of, given, behind_sort, more_parameters, parameters_at, formula_at, predicate_at, free_at, item_at, header, read_words};
 
 use crate::expression::expression;
 use crate::fault::{Fault, Wanted};
 use crate::source::{Source, front, name, names, span, token};
-use crate::token::{Kind, Token};
+use tokens::kind::Kind;
+use tokens::token::Token;
 use trees::tree::{Expr, Item, Parameter, Predicate, Sort};
 
 // An expression up to a semicolon.

@@ -1,4 +1,4 @@
-// The readable form of a claim, as text: its tokens, how its tree is read, how a tree is printed.
+// The readable form of a claim, as text: how its tree is read from its tokens.
 #![tactic(auto)]
 
 mod expression;
@@ -6,6 +6,5 @@ pub mod fault;
 mod items;
 pub mod operators;
 pub mod parse;
-pub mod print;
+mod part;
 mod source;
-pub mod token;

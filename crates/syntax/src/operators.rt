@@ -2,7 +2,7 @@
 ghost use Rattle.std.specs.Prelude.{ℕ, ◌≡◌, ◌≤◌};
 ghost use Rattle.syntax.specs.Parsing.{level_of, right_of, binary_of};
 
-use crate::token::Kind;
+use tokens::kind::Kind;
 use trees::tree::Binary;
 
 /// How tight an operator binds: an operand binds tighter than the operators beside it, or stands in parentheses. `from` is how tight the right operand has to bind.

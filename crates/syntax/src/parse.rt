@@ -1,8 +1,10 @@
 // Reads a text: its tokens, and from these its items.
 ghost use Rattle.std.specs.Prelude.{◌≡◌, ℕ, Bool, Ok, List, IfOk, length, map};
-ghost use Rattle.syntax.specs.Covering.{Covers};
-ghost use Rattle.syntax.specs.declared.token.Token.{Token};
-ghost use Rattle.syntax.specs.Views.{words, Gives};
+ghost use Rattle.tokens.specs.Covering.{Covers};
+ghost use Rattle.tokens.specs.declared.token.Token.{Token};
+ghost use Rattle.tokens.specs.Words.{words};
+ghost use Rattle.tokens.specs.Spaced.{spaced, NamesAlone};
+ghost use Rattle.syntax.specs.Views.{Gives};
 ghost use Rattle.syntax.specs.Items.{PlainItem, view_items, read_words, written_items, bare_item, AreItems};
 ghost use Rattle.syntax.specs.Printed.{text_item, AreTreeItems};
 
@@ -10,7 +12,7 @@ use crate::expression::MOST_OPEN;
 use crate::fault::Fault;
 use crate::items::items;
 use crate::source::Source;
-use crate::token::{Token, tokens};
+use tokens::token::{Token, tokens};
 use std::alloc::Global;
 use trees::tree::Item;
 
@@ -55,13 +57,15 @@ pub fn read_tokens(heap: Global, text: &[u8], tokens: &[Token]) -> Result<Vec<It
 
 /// The items of a text, or the first fault in it.
 ///
-/// Between the tokens that were read stand blanks and comments only, and what is given is what they are read as.
+/// Between the tokens that were read stand blanks and comments only, and what is given is what they are read as. A text of spaced words of a tree, as the
+/// printer writes it, with few parentheses or with all, is read as this tree, unless memory runs out, if each name of the tree is one where it stands alone.
 ///
 /// # Errors
 ///
 /// The first fault, that something is too large, or that there is not enough memory.
 pub fn read(heap: Global, text: &[u8]) -> Result<Vec<Item>, Fault>
-    ensures { IfOk result (λ v. (all : List Token) × Covers text.now 0 all (length text.now) × ((c : ℕ) → c ≡ 2000 → read_words (length all) c (words text.now all) ≡ Ok (view_items v.items))) }
+    ensures reads { IfOk result (λ v. (all : List Token) × Covers text.now 0 all (length text.now) × ((c : ℕ) → c ≡ 2000 → read_words (length all) c (words text.now all) ≡ Ok (view_items v.items))) }
+    ensures printed { (all : Bool) (is : List PlainItem) → AreTreeItems is → NamesAlone (written_items (map (text_item all) is)) → text.now ≡ spaced (written_items (map (text_item all) is)) → Gives (λ v. view_items v.items) result (Ok is) }
 {
     let tokens = tokens(heap, text)?;
     read_tokens(heap, text, &tokens)

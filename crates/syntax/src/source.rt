@@ -1,11 +1,13 @@
 // A text whose tokens are read, and what the tokens that are left begin with. Each function gives what it read and the tokens behind it.
 ghost use Rattle.std.specs.Prelude.{◌≡◌, ℕ, ◌+◌, ◌<◌, ◌≤◌, true, false, length, IfOk, IfSome, MatchOption, Some, None, string_bytes};
 ghost use Rattle.syntax.specs.Parsing.{begins, behind, tail, ascii, value, number_of, name, operator, names_at};
-ghost use Rattle.syntax.specs.Views.{bytes_of, words, Gives, names_of};
+ghost use Rattle.tokens.specs.Words.{bytes_of, words};
+ghost use Rattle.syntax.specs.Views.{Gives, names_of};
 
 use crate::fault::{Fault, Wanted};
 use crate::operators::{binary, tightness_of};
-use crate::token::{Kind, Token};
+use tokens::kind::Kind;
+use tokens::token::Token;
 use std::alloc::Global;
 use std::str::from_utf8;
 use trees::position::Span;

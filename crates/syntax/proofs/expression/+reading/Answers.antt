@@ -3,7 +3,8 @@ use Rattle.std.proofs.lemmas.Result.{err_from_is_err_and}
 use Rattle.trees.specs.declared.tree.Expr.{Expr}
 use Rattle.syntax.specs.Plain.{more, none}
 use Rattle.syntax.specs.Parsing.{parse, up_to, depths, push}
-use Rattle.syntax.specs.Views.{words, view, view_all}
+use Rattle.tokens.specs.Words.{words}
+use Rattle.syntax.specs.Views.{view, view_all}
 use Rattle.syntax.proofs.ExpressionLaws.{fails_on, opened, opened_fails, next_operator, first_item, next_item, view_push, depths_push, item_fails, no_item, closed, closed_fails}
 use Rattle.syntax.proofs.expression.+reading.Goals as goal
 

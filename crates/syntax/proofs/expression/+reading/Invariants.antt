@@ -1,6 +1,7 @@
 use Rattle.std.proofs.Common.{◌≡◌, ℕ, ◌<◌, ◌≤◌, length, ◌+◌, ◌*◌}
 use Rattle.syntax.specs.Parsing.{parse, climb, items, more_items, up_to, depth, depths}
-use Rattle.syntax.specs.Views.{words, view, view_all}
+use Rattle.tokens.specs.Words.{words}
+use Rattle.syntax.specs.Views.{view, view_all}
 use Rattle.syntax.proofs.expression.+reading.Given as goal
 
 -- an expression counts, and what it calls without counting stands in this order

@@ -1,7 +1,7 @@
 use Rattle.std.proofs.Common.{arith, ◌≡◌, ◌++◌, ◌∷◌, [], List, ap, sym, ◌∙◌}
 use Rattle.std.proofs.lemmas.Result.{err_from_is_err_and}
 use Rattle.trees.specs.declared.tree.Parameter.{Parameter}
-use Rattle.syntax.specs.Views.{words}
+use Rattle.tokens.specs.Words.{words}
 use Rattle.syntax.specs.Items.{more_parameters, view_parameter, view_parameters}
 use Rattle.syntax.proofs.ExpressionLaws.{fails_on}
 use Rattle.syntax.proofs.ItemsLaws.{parameters_push, next_parameter, parameter_fails}

@@ -1,5 +1,5 @@
 use Rattle.std.proofs.Common.{◌≡◌, ◌≤◌, ℕ, [], ◌∷◌, length}
-use Rattle.syntax.specs.Views.{words}
+use Rattle.tokens.specs.Words.{words}
 use Rattle.syntax.specs.Items.{more_parameters, view_parameter, view_parameters}
 use Rattle.syntax.proofs.items.further.Given as goal
 

@@ -1,7 +1,7 @@
 use Rattle.std.proofs.Common.{arith, rules, ap, ◌∙◌, ◌<◌, length}
 use Rattle.std.proofs.lemmas.Result.{err_from_is_err_and}
 use Rattle.syntax.specs.Parsing.{parse}
-use Rattle.syntax.specs.Views.{words}
+use Rattle.tokens.specs.Words.{words}
 use Rattle.syntax.specs.Items.{view_items}
 use Rattle.syntax.proofs.ExpressionLaws.{fails_on}
 use Rattle.syntax.proofs.ItemsLaws.{items_push, first_read, next_read, read_fails}

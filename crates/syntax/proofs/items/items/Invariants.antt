@@ -1,6 +1,6 @@
 use Rattle.std.proofs.Common.{◌≡◌, ◌≤◌, ℕ, length}
 use Rattle.syntax.specs.Parsing.{parse}
-use Rattle.syntax.specs.Views.{words}
+use Rattle.tokens.specs.Words.{words}
 use Rattle.syntax.specs.Items.{more_read, read_words, view_items}
 use Rattle.syntax.proofs.items.items.Given as goal
 

@@ -1,5 +1,5 @@
 use Rattle.std.proofs.Common.{arith, length}
-use Rattle.syntax.specs.Views.{words}
+use Rattle.tokens.specs.Words.{words}
 use Rattle.syntax.specs.Items.{view_items}
 use Rattle.syntax.proofs.ParseLaws.{at_most, read_written, read_printed}
 use Rattle.syntax.proofs.parse.read_tokens.Goals as goal

@@ -1,6 +1,7 @@
 use Rattle.std.proofs.Common.{arith, ◌++◌, ◌∷◌, [], List, ap, ◌∙◌}
 use Rattle.trees.specs.declared.tree.Name.{Name}
-use Rattle.syntax.specs.Views.{words, names_of}
+use Rattle.tokens.specs.Words.{words}
+use Rattle.syntax.specs.Views.{names_of}
 use Rattle.syntax.proofs.NamesLaws.{names_of_more, first_name, next_name}
 use Rattle.syntax.proofs.source.names.Goals as goal
 

@@ -1,6 +1,7 @@
 use Rattle.std.proofs.Common.{◌≡◌, ◌≤◌, ◌<◌, ℕ, length}
 use Rattle.syntax.specs.Parsing.{more_names, names_at}
-use Rattle.syntax.specs.Views.{words, names_of}
+use Rattle.tokens.specs.Words.{words}
+use Rattle.syntax.specs.Views.{names_of}
 use Rattle.syntax.proofs.source.names.Given as goal
 
 abbrev pub invariant-loop-behind : goal.invariant-loop-behind

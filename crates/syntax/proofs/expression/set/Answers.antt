@@ -1,5 +1,0 @@
-use Rattle.syntax.proofs.ExpressionLaws.{listed_view}
-use Rattle.syntax.proofs.expression.set.Goals as goal
-
-pub returns : goal.returns
-returns c = listed_view c.args.all c.args.place
