@@ -1,5 +1,5 @@
 -- What changes say of a bit, one change after the other.
-use Rattle.std.proofs.Common.{◌≡◌, ◌≢◌, ℕ, ◌+◌, ◌<◌, ◌≤◌, Bool, true, false, cond, eqb, Option, Some, None, List, [], ◌∷◌, ◌++◌, length, take, get_or, map, refl, sym, ap, ◌∙◌, arith}
+use Rattle.std.proofs.Common.{◌≡◌, ◌≢◌, ℕ, ◌+◌, ◌<◌, ◌≤◌, Bool, true, false, cond, eqb, Option, Some, None, List, [], ◌∷◌, ◌++◌, length, take, get_or, refl, sym, ap, ◌∙◌, arith}
 use Rattle.std.specs.Prelude.{unwrap_or}
 use Rattle.std.proofs.lemmas.Bool.Decides.{Decides-eqb}
 use Rattle.std.specs.List.{cons_option}
@@ -11,7 +11,7 @@ use Rattle.rule_file.specs.declared.tree.Effects.{Effects}
 use Rattle.rule_source.specs.Effects.{changed, changes, first_or, said, said_by, value}
 use Rattle.rule_source.specs.Patterns.{number}
 use Rattle.rule_source.specs.declared.bits.Bits.{Bits}
-use Rattle.rule_source.proofs.NamesLaws.{filtered_more}
+use Rattle.rule_source.proofs.NamesLaws.{append_none, filtered_more}
 
 is_false : (b : Bool) → (b ≡ true → ⊥) → b ≡ false
 is_false true h = absurd (h refl)
@@ -28,23 +28,16 @@ says_value b j c n e q = says b j c true ((Decides-eqb (number b (changed c)) j)
 says_nothing : (b : Bits) (j : ℕ) (c : Change) (n : ℕ) → n ≡ number b (changed c) → n ≢ j → said_by b j c ≡ None
 says_nothing b j c n e q = says b j c false (is_false (eqb (number b (changed c)) j) (λ t. q (e ∙ (Decides-eqb (number b (changed c)) j).0 t)))
 
-said_more : (b : Bits) (j : ℕ) (cs : List Change) (i : ℕ) (c : Change) (base old new : List NewBit) → i < length cs → c ≡ get_or cs i c → old ≡ base ++ said b j (take i cs) → new ≡ old ++ cons_option (said_by b j c) [] → new ≡ base ++ said b j (take (i + 1) cs)
-said_more b j cs i c base old new h r a n = filtered_more (said_by b j) cs i c base old new h a (n ∙ ap (λ (t : Change). old ++ cons_option (said_by b j t) []) r)
-
 -- behind what was said, of the bit a change says its value where nothing was said, and one that names another bit nothing
-pub says_first : (b : Bits) (j : ℕ) (cs : List Change) (i : ℕ) (c : Change) (base : List NewBit) (o : Option NewBit) (n : ℕ) (v : NewBit) → i < length cs → c ≡ get_or cs i c → option_to_list o ≡ base ++ said b j (take i cs) → o ≡ None → n ≡ number b (changed c) → n ≡ j → v ≡ value b c → option_to_list (Some v) ≡ base ++ said b j (take (i + 1) cs)
-says_first b j cs i c base o n v h r a none e q w =
-    said_more b j cs i c base (option_to_list o) (option_to_list (Some v)) h r a
-    (ap (λ (t : NewBit). t ∷ []) w ∙ sym (ap (λ (t : Option NewBit). option_to_list t ++ cons_option (said_by b j c) []) none ∙ ap (λ (t : Option NewBit). cons_option t []) (says_value b j c n e q)))
+pub says_first : (b : Bits) (j : ℕ) (cs : List Change) (i : ℕ) (d : Change) (base : List NewBit) (o : Option NewBit) (n : ℕ) (v : NewBit) → i < length cs → option_to_list o ≡ base ++ said b j (take i cs) → o ≡ None → n ≡ number b (changed (get_or cs i d)) → n ≡ j → v ≡ value b (get_or cs i d) → option_to_list (Some v) ≡ base ++ said b j (take (i + 1) cs)
+says_first b j cs i d base o n v h a none e q w =
+    filtered_more (said_by b j) cs i d base (option_to_list o) (option_to_list (Some v)) h a
+    (ap (λ (t : NewBit). t ∷ []) w ∙ sym (ap (λ (t : Option NewBit). option_to_list t ++ cons_option (said_by b j (get_or cs i d)) []) none ∙ ap (λ (t : Option NewBit). cons_option t []) (says_value b j (get_or cs i d) n e q)))
 
-append_none : (xs : List NewBit) → xs ≡ xs ++ []
-append_none [] = refl
-append_none (x ∷ xs) = ap (λ (t : List NewBit). x ∷ t) (append_none xs)
-
-pub says_no_more : (b : Bits) (j : ℕ) (cs : List Change) (i : ℕ) (c : Change) (base : List NewBit) (o : Option NewBit) (n : ℕ) → i < length cs → c ≡ get_or cs i c → option_to_list o ≡ base ++ said b j (take i cs) → n ≡ number b (changed c) → n ≢ j → option_to_list o ≡ base ++ said b j (take (i + 1) cs)
-says_no_more b j cs i c base o n h r a e q =
-    said_more b j cs i c base (option_to_list o) (option_to_list o) h r a
-    (append_none (option_to_list o) ∙ sym (ap (λ (t : Option NewBit). option_to_list o ++ cons_option t []) (says_nothing b j c n e q)))
+pub says_no_more : (b : Bits) (j : ℕ) (cs : List Change) (i : ℕ) (d : Change) (base : List NewBit) (o : Option NewBit) (n : ℕ) → i < length cs → option_to_list o ≡ base ++ said b j (take i cs) → n ≡ number b (changed (get_or cs i d)) → n ≢ j → option_to_list o ≡ base ++ said b j (take (i + 1) cs)
+says_no_more b j cs i d base o n h a e q =
+    filtered_more (said_by b j) cs i d base (option_to_list o) (option_to_list o) h a
+    (append_none (option_to_list o) ∙ sym (ap (λ (t : Option NewBit). option_to_list o ++ cons_option t []) (says_nothing b j (get_or cs i d) n e q)))
 
 -- what is said before and behind the word, in one
 pub all_said : (b : Bits) (j : ℕ) (e : Effects) (o q : Option NewBit) → option_to_list o ≡ said b j e.before.items → option_to_list q ≡ option_to_list o ++ said b j e.after.items → option_to_list q ≡ said b j (changes e)

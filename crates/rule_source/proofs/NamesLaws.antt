@@ -1,5 +1,5 @@
 -- The number of a name, and lists that a loop goes on with.
-use Rattle.std.proofs.Common.{◌≡◌, ◌≢◌, ℕ, zero, suc, ◌+◌, ◌<◌, ◌≤◌, Bool, true, false, cond, Option, Some, All, List, [], ◌∷◌, ◌++◌, append_assoc, length, take, get_or, map, refl, sym, ap, subst, ◌∙◌, arith}
+use Rattle.std.proofs.Common.{◌≡◌, ◌≢◌, ℕ, zero, suc, ◌+◌, ◌<◌, ◌≤◌, Bool, true, false, cond, Option, Some, None, All, List, [], ◌∷◌, ◌++◌, append_assoc, length, take, get_or, map, refl, sym, ap, subst, ◌∙◌, arith}
 use Rattle.std.specs.Str.{bytes_eq}
 use Rattle.std.specs.List.{AllZip, cons_option, filter_map}
 use Rattle.std.specs.Bool.{Decides}
@@ -82,3 +82,16 @@ zip_item R xs i x old new y h e a n r =
 -- the same of what some elements are mapped to
 pub zip_filtered : {X Y Z : Type 0} (R : Y → Z → Type 0) (f : X → Option Y) (xs : List X) (i : ℕ) (x : X) (old new : List Z) → i < length xs → x ≡ get_or xs i x → AllZip R (filter_map f (take i xs)) old → ((ys : List Y) → AllZip R ys old → AllZip R (ys ++ cons_option (f x) []) new) → AllZip R (filter_map f (take (i + 1) xs)) new
 zip_filtered R f xs i x old new h e a n = subst (λ t. AllZip R t new) (filtered_item f xs i x (filter_map f (take i xs)) _ h e refl refl) (n (filter_map f (take i xs)) a)
+
+pub append_none : {X : Type 0} (xs : List X) → xs ≡ xs ++ []
+append_none [] = refl
+append_none (x ∷ xs) = ap (λ t. x ∷ t) (append_none xs)
+
+-- none more, or one, as an option is
+pub zip_none : {X Y : Type 0} (R : X → Y → Type 0) (o : Option X) (xs : List X) (old new : List Y) → AllZip R xs old → o ≡ None → new ≡ old → AllZip R (xs ++ cons_option o []) new
+zip_none R o xs old new a e n =
+    subst (λ t. AllZip R (xs ++ cons_option t []) new) (sym e) (subst (λ t. AllZip R t new) (append_none xs) (subst (λ t. AllZip R xs t) (sym n) a))
+
+pub zip_one : {X Y : Type 0} (R : X → Y → Type 0) (o : Option X) (x : X) (y : Y) (xs : List X) (old new : List Y) → AllZip R xs old → o ≡ Some x → new ≡ old ++ y ∷ [] → R x y → AllZip R (xs ++ cons_option o []) new
+zip_one R o x y xs old new a e n r =
+    subst (λ t. AllZip R (xs ++ cons_option t []) new) (sym e) (subst (λ t. AllZip R (xs ++ x ∷ []) t) (sym n) (zip_push R xs old x y a r))

@@ -4,7 +4,6 @@ use Rattle.std.specs.List.{filter_map, range_with_len}
 use Rattle.rows.specs.Rules as rules
 use Rattle.rows.specs.declared.rule.NewBit.{NewBit}
 use Rattle.rows.specs.declared.rule.NewBit.TheVariants.{Fixed, AsWas}
-use Rattle.rows.specs.declared.rule.Side.{Side}
 use Rattle.rows.specs.declared.rule.Side.TheVariants as side
 use Rattle.rule_file.specs.declared.token.Token.{Token}
 use Rattle.rule_file.specs.declared.tree.Change.{Change}

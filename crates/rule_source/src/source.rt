@@ -68,6 +68,7 @@ struct Reading {
 
 impl Reading {
     // A statement more. Claims are read once the rule stands.
+    #[tactic(auto, using(crate::proofs::NamesLaws::zip_none, crate::proofs::NamesLaws::zip_one))]
     fn add(&mut self, alloc: Global, bits: &Bits<'_>, statement: &Statement) -> Result<(), Fault>
         ensures patterns { OnOk result (self.new.allowed.items ≡ self.old.allowed.items ++ cons_option (allowed_by bits.now statement.now) []) }
         ensures limits { OnOk result ((ts : List Token) → AllZip (FormulaOf bits.now Row) ts self.old.limits.items → AllZip (FormulaOf bits.now Row) (ts ++ cons_option (limit_of statement.now) []) self.new.limits.items) }

@@ -14,7 +14,7 @@ returns-in-Some c =
     let items = c.in_ok-items.items.items in
     let sets : map (λ n. string_bytes n) c.in_ok-names.names.items ≡ sets_of c.args.about b = c.in_ok-names.ensures in
     let bytes : string_bytes c.in_ok-composed.composed.text ≡ declared (sets_of c.args.about b) (bytes_of b.text.now c.args.formula) =
-        c.in_ok-composed.ensures ∙ ap (λ (l : List (List ℕ)). declared l (bytes_of b.text.now c.args.formula)) (ap (λ l. map (λ n. string_bytes n) l) c.deref.ensures.value ∙ sets) in
+    c.in_ok-composed.ensures ∙ ap (λ (l : List (List ℕ)). declared l (bytes_of b.text.now c.args.formula)) (ap (λ l. map (λ n. string_bytes n) l) c.deref.ensures.value ∙ sets) in
     record {
       items = items;
       read = subst (λ (t : List ℕ). AreRead t items) bytes c.in_ok-items.ensures;
