@@ -1,5 +1,5 @@
 -- What the lines of a table say: when a line counts, and what it does.
-use Rattle.std.specs.Prelude.{ℕ, ◌==◌, ◌≤◌, ◌<◌, Bool, true, false, cond, Option, Some, None, List, [], ◌∷◌, ◌++◌, length, map}
+use Rattle.std.specs.Prelude.{ℕ, ◌==◌, ◌≤◌, ◌<◌, Bool, true, false, cond, Option, Some, None, All, List, [], ◌∷◌, ◌++◌, length, map}
 use Rattle.std.specs.List.{filter_map, range_with_len}
 use Rattle.rows.specs.Rules as rules
 use Rattle.rows.specs.declared.rule.NewBit.{NewBit}
@@ -74,3 +74,11 @@ line_by b _ = None
 -- the lines of the table, in their order
 abbrev pub table_in : Bits → List Line → List rules.Line
 table_in b ls = filter_map (λ l. line_by b l.statement) ls
+
+-- a line of the table names no bit twice
+abbrev pub NamesOnce : Bits → Statement → Type 0
+NamesOnce b (statement.Line p a e) = AreApart b e
+NamesOnce b _ = Unit {0}
+
+abbrev pub AllNameOnce : Bits → List Line → Type 0
+AllNameOnce b ls = All (λ l. NamesOnce b l.statement) ls

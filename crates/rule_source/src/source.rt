@@ -6,7 +6,7 @@ ghost use Rattle.rule_file.specs.Covering.{Covers};
 ghost use Rattle.rule_file.specs.Written.{file_tokens};
 ghost use Rattle.rule_file.specs.declared.token.Token.{Token};
 ghost use Rattle.rule_file.specs.declared.tree.Module.{Module};
-ghost use Rattle.rule_source.specs.Effects.{line_by, table_in};
+ghost use Rattle.rule_source.specs.Effects.{AllNameOnce, NamesOnce, line_by, table_in};
 ghost use Rattle.rule_source.specs.Formulas.{AreLimits, FormulaOf, limit_of};
 ghost use Rattle.rule_source.specs.Given.{AreRows, IsRow, row_by};
 ghost use Rattle.rule_source.specs.Patterns.{allowed_by, allowed_in};
@@ -73,6 +73,7 @@ impl Reading {
         ensures patterns { OnOk result (self.new.allowed.items ≡ self.old.allowed.items ++ cons_option (allowed_by bits.now statement.now) []) }
         ensures limits { OnOk result ((ts : List Token) → AllZip (FormulaOf bits.now Row) ts self.old.limits.items → AllZip (FormulaOf bits.now Row) (ts ++ cons_option (limit_of statement.now) []) self.new.limits.items) }
         ensures lines { OnOk result (map (λ l. l.0) self.new.table.items ≡ map (λ l. l.0) self.old.table.items ++ cons_option (line_by bits.now statement.now) []) }
+        ensures once { OnOk result (NamesOnce bits.now statement.now) }
         ensures rows { OnOk result ((ms : List (List Module)) → AllZip (IsRow bits.now) ms self.old.rows.items → AllZip (IsRow bits.now) (ms ++ cons_option (row_by statement.now) []) self.new.rows.items) }
     {
         match statement {
@@ -106,6 +107,7 @@ fn reading_of(
     ensures patterns { IfOk result (λ r. r.allowed.items ≡ allowed_in bits.now lines.now) }
     ensures limits { IfOk result (λ r. AreLimits bits.now lines.now r.limits.items) }
     ensures lines { IfOk result (λ r. map (λ l. l.0) r.table.items ≡ table_in bits.now lines.now) }
+    ensures once { OnOk result (AllNameOnce bits.now lines.now) }
     ensures rows { IfOk result (λ r. AreRows bits.now lines.now r.rows.items) }
 {
     let mut reading = Reading {
@@ -147,6 +149,7 @@ pub fn rule_of(
     ensures patterns { IfOk result (λ r. r.allowed.items ≡ allowed_in bits.now lines.now) }
     ensures limits { IfOk result (λ r. AreLimits bits.now lines.now r.limits.items) }
     ensures lines { IfOk result (λ r. r.table.items ≡ table_in bits.now lines.now) }
+    ensures once { OnOk result (AllNameOnce bits.now lines.now) }
 {
     let (rule, _) = made(alloc, bits, reading_of(alloc, bits, lines)?)?;
     Ok(rule)
@@ -162,6 +165,7 @@ pub fn source_of(alloc: Global, text: &str) -> Result<Source<'_>, Fault>
     ensures patterns { IfOk result (λ s. s.rule.allowed.items ≡ allowed_in s.bits s.file.lines.items) }
     ensures limits { IfOk result (λ s. AreLimits s.bits s.file.lines.items s.rule.limits.items) }
     ensures lines { IfOk result (λ s. s.rule.table.items ≡ table_in s.bits s.file.lines.items) }
+    ensures once { IfOk result (λ s. AllNameOnce s.bits s.file.lines.items) }
     ensures rows { IfOk result (λ s. AreRows s.bits s.file.lines.items s.rows.items) }
 {
     let file = read(alloc, text)?;
