@@ -1,4 +1,6 @@
--- What literals exclude and give; the numbers of names; how statements are counted.
+-- What literals exclude and give; the numbers of names; formulas behind their sets; lines of the table; given rows.
 pub mod ClashLaws
 pub mod NamesLaws
-pub mod CountedLaws
+pub mod FormulasLaws
+pub mod EffectsLaws
+pub mod GivenLaws

@@ -1,7 +1,7 @@
 -- The number of a name, and lists that a loop goes on with.
-use Rattle.std.proofs.Common.{◌≡◌, ◌≢◌, ℕ, zero, suc, ◌+◌, ◌<◌, ◌≤◌, Bool, true, false, cond, Option, Some, All, List, [], ◌∷◌, ◌++◌, append_assoc, length, take, get_or, map, refl, sym, ap, subst, ◌∙◌, arith}
+use Rattle.std.proofs.Common.{◌≡◌, ◌≢◌, ℕ, zero, suc, ◌+◌, ◌<◌, ◌≤◌, Bool, true, false, cond, Option, Some, None, All, List, [], ◌∷◌, ◌++◌, append_assoc, length, take, get_or, map, refl, sym, ap, subst, ◌∙◌, arith}
 use Rattle.std.specs.Str.{bytes_eq}
-use Rattle.std.specs.List.{cons_option, filter_map}
+use Rattle.std.specs.List.{AllZip, cons_option, filter_map}
 use Rattle.std.specs.Bool.{Decides}
 use Rattle.std.proofs.lemmas.List.{take_all, take_more, get_or-map, length-map}
 use Rattle.std.proofs.lemmas.List.Elements.{All-push, filter_map-append}
@@ -65,3 +65,33 @@ all_push P old new x n p a = subst (λ t. All P t) (sym n) (All-push P old x a p
 -- a place of a list, read
 pub place_of : {X Z : Type 0} (f : X → Z) (xs ys : List X) (j : ℕ) (d : X) (z : Z) → ys ≡ xs → j < length xs → f (get_or ys j d) ≡ z → slice_get (map f xs) j ≡ Some z
 place_of f xs ys j d z q h e = slice_get-map f xs j ∙ ap (λ o. option_map f o) (slice_get-get_or xs j d h) ∙ ap Some (ap (λ t. f (get_or t j d)) (sym q) ∙ e)
+
+-- two lists, of which what stands at the same place belongs together, and one more of each
+pub zip_push : {X Y : Type 0} (R : X → Y → Type 0) (xs : List X) (ys : List Y) (x : X) (y : Y) → AllZip R xs ys → R x y → AllZip R (xs ++ x ∷ []) (ys ++ y ∷ [])
+zip_push R [] [] x y h r = (r, tt)
+zip_push R [] (z ∷ ys) x y h r = absurd h
+zip_push R (w ∷ xs) [] x y h r = absurd h
+zip_push R (w ∷ xs) (z ∷ ys) x y h r = (h.0, zip_push R xs ys x y h.1 r)
+
+-- the same where the element was read
+pub zip_item : {X Y : Type 0} (R : X → Y → Type 0) (xs : List X) (i : ℕ) (x : X) (old new : List Y) (y : Y) → i < length xs → x ≡ get_or xs i x → AllZip R (take i xs) old → new ≡ old ++ y ∷ [] → R x y → AllZip R (take (i + 1) xs) new
+zip_item R xs i x old new y h e a n r =
+    subst (λ t. AllZip R t new) (sym (take_more xs i x h ∙ ap (λ t. take i xs ++ t ∷ []) (sym e)))
+    (subst (λ t. AllZip R (take i xs ++ x ∷ []) t) (sym n) (zip_push R (take i xs) old x y a r))
+
+-- the same of what some elements are mapped to
+pub zip_filtered : {X Y Z : Type 0} (R : Y → Z → Type 0) (f : X → Option Y) (xs : List X) (i : ℕ) (x : X) (old new : List Z) → i < length xs → x ≡ get_or xs i x → AllZip R (filter_map f (take i xs)) old → ((ys : List Y) → AllZip R ys old → AllZip R (ys ++ cons_option (f x) []) new) → AllZip R (filter_map f (take (i + 1) xs)) new
+zip_filtered R f xs i x old new h e a n = subst (λ t. AllZip R t new) (filtered_item f xs i x (filter_map f (take i xs)) _ h e refl refl) (n (filter_map f (take i xs)) a)
+
+pub append_none : {X : Type 0} (xs : List X) → xs ≡ xs ++ []
+append_none [] = refl
+append_none (x ∷ xs) = ap (λ t. x ∷ t) (append_none xs)
+
+-- none more, or one, as an option is
+pub zip_none : {X Y : Type 0} (R : X → Y → Type 0) (o : Option X) (xs : List X) (old new : List Y) → AllZip R xs old → o ≡ None → new ≡ old → AllZip R (xs ++ cons_option o []) new
+zip_none R o xs old new a e n =
+    subst (λ t. AllZip R (xs ++ cons_option t []) new) (sym e) (subst (λ t. AllZip R t new) (append_none xs) (subst (λ t. AllZip R xs t) (sym n) a))
+
+pub zip_one : {X Y : Type 0} (R : X → Y → Type 0) (o : Option X) (x : X) (y : Y) (xs : List X) (old new : List Y) → AllZip R xs old → o ≡ Some x → new ≡ old ++ y ∷ [] → R x y → AllZip R (xs ++ cons_option o []) new
+zip_one R o x y xs old new a e n r =
+    subst (λ t. AllZip R (xs ++ cons_option t []) new) (sym e) (subst (λ t. AllZip R (xs ++ x ∷ []) t) (sym n) (zip_push R xs old x y a r))

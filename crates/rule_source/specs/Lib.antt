@@ -1,7 +1,9 @@
--- Which modules patterns fit; the names of bits and sets; what patterns ask; what a file claims; how much makes its rule.
+-- Which modules patterns fit; the names of bits and sets; what patterns ask, formulas say and lines do; the given rows; what a file claims.
 pub mod Clash
 pub mod Names
 pub mod Patterns
+pub mod Formulas
+pub mod Effects
+pub mod Given
 pub mod Claimed
 pub mod Asking
-pub mod Counted

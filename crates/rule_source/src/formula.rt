@@ -1,16 +1,24 @@
 // Formulas of a rule file. A formula stands in the readable form of claims, in which the bits' names are sets of places, `row` is the set of the row's
 // places, and a name with `'` behind it is that bit of the row after one step. It is read as that form is: behind a line that declares these names, so
 // that the number of a set is the place of its name in that line.
-use crate::bits::Bits;
+ghost use Rattle.std.specs.Prelude.{◌≡◌, ◌++◌, ◌↔◌, IfOk, IfSome, map, string_bytes};
+ghost use Rattle.std.specs.Bool.{OnTrue};
+ghost use Rattle.formulas.specs.Meaning.{Env, Meaning};
+ghost use Rattle.resolve.specs.Asks.{all_hold};
+ghost use Rattle.resolve.specs.Says.{text as text_of};
+ghost use Rattle.rule_file.specs.Claims.{bytes_of};
+ghost use Rattle.rule_source.specs.Formulas.{AreOne, AreRead, FormulaOf, declaration, declared, sets_of};
+
+use crate::bits::{Bits, word};
 use crate::fault::Fault;
 use formulas::formula::Formula;
-use resolve::asked::ask;
+use resolve::asked::{Stated, ask};
 use rule_file::token::Token;
 use std::alloc::{AllocError, Global};
 use syntax::parse::read;
 use syntax::token::{Kind, tokens};
 use trees::position::Span;
-use trees::tree::Item;
+use trees::tree::{Item, Name, Sort};
 
 /// What a formula speaks of.
 #[derive(Clone, Copy, Debug, PartialEq, Eq)]
@@ -21,23 +29,26 @@ pub enum About {
     Step,
 }
 
-// The line that declares the names.
-fn declaration(alloc: Global, bits: &Bits<'_>, about: About) -> Result<String, AllocError> {
-    let mut out = String::from_str(alloc, "var2 ")?;
-    for name in &bits.names {
-        out.push_str(*name)?;
-        out.push_str(", ")?;
-    }
-    out.push_str("row")?;
-    if about == About::Step {
-        for name in &bits.names {
-            out.push_str(", ")?;
-            out.push_str(*name)?;
-            out.push('\'')?;
+// The names of the sets that a formula speaks of, by their numbers.
+fn sets_of(alloc: Global, bits: &Bits<'_>, about: About) -> Result<Vec<String>, AllocError>
+    ensures { IfOk result (λ all. map (λ s. string_bytes s) all.items ≡ sets_of about bits.now) }
+{
+    let mut sets = bits.set_names(alloc)?;
+    match about {
+        About::Step => Ok(sets),
+        About::Row => {
+            sets.truncate(bits.names.len() + 1);
+            Ok(sets)
         }
     }
-    out.push_str(";\n")?;
-    Ok(out)
+}
+
+// The line that declares the names.
+fn declaration(alloc: Global, names: &[String]) -> Result<String, AllocError>
+    ensures { IfOk result (λ s. string_bytes s ≡ declaration (map (λ n. string_bytes n) names.now)) }
+{
+    let names = names.join(alloc, ", ")?;
+    format!(in alloc; "var2 {names};\n")
 }
 
 // A formula's text behind its declaration, and where in the file it begins.
@@ -76,12 +87,14 @@ impl Composed {
 fn compose(
     alloc: Global,
     bits: &Bits<'_>,
-    about: About,
+    names: &[String],
     formula: Token,
-) -> Result<Composed, Fault> {
-    let mut text = declaration(alloc, bits, about)?;
+) -> Result<Composed, Fault>
+    ensures { IfOk result (λ c. string_bytes c.text ≡ declared (map (λ n. string_bytes n) names.now) (bytes_of bits.now.text.now formula)) }
+{
+    let mut text = declaration(alloc, names)?;
     let front = text.len();
-    text.push_str(crate::bits::word(bits.text, formula)?)?;
+    text.push_str(word(bits.text, formula)?)?;
     let end = text.len();
     text.push_str("\n;\n")?;
     Ok(Composed {
@@ -111,37 +124,80 @@ fn check_one(alloc: Global, composed: &Composed) -> Result<(), Fault> {
     Ok(())
 }
 
+// The items of the composed text.
+fn items_of(alloc: Global, composed: &Composed) -> Result<Vec<Item>, Fault>
+    ensures { IfOk result (λ v. AreRead (string_bytes composed.now.text) v.items) }
+{
+    match read(alloc, composed.text.as_bytes()) {
+        Ok(items) => Ok(items),
+        Err(fault) => Err(composed.fault(fault.message(alloc, composed.quoted())?, fault.span())),
+    }
+}
+
+// Whether names are the declared ones, each at its place.
+fn are_named(sets: &[Name], names: &[String]) -> bool
+    ensures { OnTrue result (map (λ x. string_bytes x.text) sets.now ≡ map (λ n. string_bytes n) names.now) }
+{
+    let [set, others @ ..] = sets else {
+        return names.is_empty();
+    };
+    let [name, more @ ..] = names else {
+        return false;
+    };
+    set.text == *name && are_named(others, more)
+}
+
+// Whether the items are sets of those names and one formula.
+fn are_one(items: &[Item], names: &[String]) -> bool
+    ensures { OnTrue result (AreOne items.now (map (λ n. string_bytes n) names.now)) }
+{
+    match items {
+        [Item::Free(Sort::Set, sets), Item::Formula(_)] => are_named(sets, names),
+        _ => false,
+    }
+}
+
+// The one formula of which claims are, if it is one.
+fn only(claimed: Vec<Stated<'_>>) -> Option<Formula>
+    ensures { IfSome result (λ f. (e : Env) → Meaning f e ↔ all_hold claimed.entry.items e) }
+{
+    let mut others = claimed;
+    let last = others.pop()?;
+    if others.is_empty() {
+        Some(last.formula)
+    } else {
+        None
+    }
+}
+
+// What is claimed in the items, if it is one formula.
+fn claimed_in(alloc: Global, composed: &Composed, items: &[Item]) -> Result<Option<Formula>, Fault>
+    ensures { IfOk result (λ o. IfSome o (λ f. (e : Env) → Meaning f e ↔ (text_of items.now e).claimed)) }
+{
+    match ask(alloc, items) {
+        Ok(asked) => Ok(only(asked.claimed)),
+        Err(fault) => Err(composed.fault(fault.message(alloc, composed.quoted())?, fault.span())),
+    }
+}
+
 /// The formula that a token of the file is. Fails with what is wrong in it, and for memory.
 pub fn formula_of(
     alloc: Global,
     bits: &Bits<'_>,
     about: About,
     formula: Token,
-) -> Result<Formula, Fault> {
-    let composed = compose(alloc, bits, about, formula)?;
+) -> Result<Formula, Fault>
+    ensures { IfOk result (λ f. FormulaOf bits.now about formula f) }
+{
+    let names = sets_of(alloc, bits, about)?;
+    let composed = compose(alloc, bits, &names, formula)?;
     check_one(alloc, &composed)?;
-    let bytes = composed.text.as_bytes();
-    let items = match read(alloc, bytes) {
-        Ok(items) => items,
-        Err(fault) => {
-            return Err(composed.fault(fault.message(alloc, composed.quoted())?, fault.span()));
+    let items = items_of(alloc, &composed)?;
+    if are_one(&items, &names) {
+        if let Some(read) = claimed_in(alloc, &composed, &items)? {
+            return Ok(read);
         }
-    };
-    let [_, Item::Formula(_)] = items.as_slice() else {
-        let message = String::from_str(alloc, "expected a formula, found what is none")?;
-        return Err(Fault::Formula(message, Some(formula.span)));
-    };
-    match ask(alloc, &items) {
-        Ok(asked) => {
-            let mut claimed = asked.claimed;
-            match claimed.pop() {
-                Some(stated) => Ok(stated.formula),
-                None => {
-                    let message = String::from_str(alloc, "expected a formula, found nothing")?;
-                    Err(Fault::Formula(message, Some(formula.span)))
-                }
-            }
-        }
-        Err(fault) => Err(composed.fault(fault.message(alloc, composed.quoted())?, fault.span())),
     }
+    let message = String::from_str(alloc, "expected a formula, found what is none")?;
+    Err(Fault::Formula(message, Some(formula.span)))
 }

@@ -6,6 +6,7 @@ pub mod claimed;
 pub mod clash;
 pub mod fault;
 pub mod formula;
+pub mod given;
 pub mod lines;
 pub mod pattern;
 pub mod source;

@@ -1,32 +1,30 @@
 // A rule file, read: the rule, what is claimed of it, and its given rows.
-ghost use Rattle.std.specs.Prelude.{◌≡◌, ◌+◌, ◌≤◌, IfOk, OnOk, length, map, [], ◌++◌};
-ghost use Rattle.std.specs.List.{cons_option};
+ghost use Rattle.std.specs.Prelude.{◌≡◌, ◌≤◌, IfOk, OnOk, List, length, map, [], ◌++◌};
+ghost use Rattle.std.specs.List.{AllZip, cons_option};
 ghost use Rattle.rule_file.specs.Claims.{bytes_of};
 ghost use Rattle.rule_file.specs.Covering.{Covers};
 ghost use Rattle.rule_file.specs.Written.{file_tokens};
-ghost use Rattle.rule_source.specs.Counted.{count_of, is_line, is_limit, is_row, one_if};
+ghost use Rattle.rule_file.specs.declared.token.Token.{Token};
+ghost use Rattle.rule_file.specs.declared.tree.Module.{Module};
+ghost use Rattle.rule_source.specs.Effects.{AllNameOnce, NamesOnce, line_by, table_in};
+ghost use Rattle.rule_source.specs.Formulas.{AreLimits, FormulaOf, limit_of};
+ghost use Rattle.rule_source.specs.Given.{AreRows, IsRow, row_by};
 ghost use Rattle.rule_source.specs.Patterns.{allowed_by, allowed_in};
+ghost use Rattle.rule_source.specs.declared.formula.About.TheVariants.{Row};
 
 use crate::bits::Bits;
 use crate::fault::Fault;
 use crate::formula::{About, formula_of};
+use crate::given::{Given, row_of};
 use crate::lines::line_of;
 use crate::pattern::pattern_of;
 use formulas::formula::Formula;
 use rows::line::{Line, Pattern};
 use rule_file::parse::read;
-use rule_file::tree::{File, Joined, Module, Statement};
+use rule_file::tree::{File, Statement};
 use rules::rule::Rule;
 use std::alloc::Global;
 use trees::position::Span;
-use words::bits::{Set, has_bit, with_bit};
-
-/// A given row, a column for each module, and where it stands in the file.
-#[derive(Debug, Drop)]
-pub struct Given {
-    pub columns: Vec<u32>,
-    pub span: Span,
-}
 
 /// A rule file, read. Its rule is sound, and its modules have one to five bits.
 #[derive(Drop)]
@@ -59,58 +57,6 @@ pub fn statement_span(statement: &Statement) -> Span {
     }
 }
 
-// The column of a module with that bit more. Fails where it has the bit already.
-fn with_name(bits: &Bits<'_>, column: u32, name: rule_file::token::Token) -> Result<u32, Fault> {
-    let j = Set(bits.number(name)?);
-    if has_bit(column, j) {
-        return Err(Fault::TwiceInModule(name));
-    }
-    Ok(with_bit(column, j))
-}
-
-// The bits of a module behind its first.
-fn with_names(bits: &Bits<'_>, column: u32, more: &[Joined]) -> Result<u32, Fault> {
-    let mut column = column;
-    for joined in more {
-        column = with_name(bits, column, joined.name)?;
-    }
-    Ok(column)
-}
-
-fn module_of(bits: &Bits<'_>, module: &Module) -> Result<u32, Fault> {
-    match module {
-        Module::Bare(_) => Ok(0),
-        Module::Bits(name, more) => with_names(bits, with_name(bits, 0, *name)?, more),
-    }
-}
-
-fn module_span(module: &Module) -> Span {
-    match module {
-        Module::Bare(point) => point.span,
-        Module::Bits(name, more) => match more.last() {
-            Some(joined) => name.span.to(joined.name.span),
-            None => name.span,
-        },
-    }
-}
-
-fn row_of(
-    alloc: Global,
-    bits: &Bits<'_>,
-    heading: Span,
-    modules: &[Module],
-) -> Result<Given, Fault> {
-    let mut columns = Vec::new(alloc);
-    for module in modules {
-        columns.push(module_of(bits, module)?)?;
-    }
-    let last = modules.last().map(module_span).unwrap_or(heading);
-    Ok(Given {
-        columns,
-        span: heading.to(last),
-    })
-}
-
 // What has been read so far.
 #[derive(Drop)]
 struct Reading {
@@ -122,11 +68,13 @@ struct Reading {
 
 impl Reading {
     // A statement more. Claims are read once the rule stands.
+    #[tactic(auto, using(crate::proofs::NamesLaws::zip_none, crate::proofs::NamesLaws::zip_one))]
     fn add(&mut self, alloc: Global, bits: &Bits<'_>, statement: &Statement) -> Result<(), Fault>
         ensures patterns { OnOk result (self.new.allowed.items ≡ self.old.allowed.items ++ cons_option (allowed_by bits.now statement.now) []) }
-        ensures limits { OnOk result (length self.new.limits.items ≡ length self.old.limits.items + one_if (is_limit statement.now)) }
-        ensures lines { OnOk result (length self.new.table.items ≡ length self.old.table.items + one_if (is_line statement.now)) }
-        ensures rows { OnOk result (length self.new.rows.items ≡ length self.old.rows.items + one_if (is_row statement.now)) }
+        ensures limits { OnOk result ((ts : List Token) → AllZip (FormulaOf bits.now Row) ts self.old.limits.items → AllZip (FormulaOf bits.now Row) (ts ++ cons_option (limit_of statement.now) []) self.new.limits.items) }
+        ensures lines { OnOk result (map (λ l. l.0) self.new.table.items ≡ map (λ l. l.0) self.old.table.items ++ cons_option (line_by bits.now statement.now) []) }
+        ensures once { OnOk result (NamesOnce bits.now statement.now) }
+        ensures rows { OnOk result ((ms : List (List Module)) → AllZip (IsRow bits.now) ms self.old.rows.items → AllZip (IsRow bits.now) (ms ++ cons_option (row_by statement.now) []) self.new.rows.items) }
     {
         match statement {
             Statement::Allowed(_) | Statement::Table(_) => {}
@@ -157,9 +105,10 @@ fn reading_of(
     lines: &[rule_file::tree::Line],
 ) -> Result<Reading, Fault>
     ensures patterns { IfOk result (λ r. r.allowed.items ≡ allowed_in bits.now lines.now) }
-    ensures limits { IfOk result (λ r. length r.limits.items ≡ count_of is_limit lines.now) }
-    ensures lines { IfOk result (λ r. length r.table.items ≡ count_of is_line lines.now) }
-    ensures rows { IfOk result (λ r. length r.rows.items ≡ count_of is_row lines.now) }
+    ensures limits { IfOk result (λ r. AreLimits bits.now lines.now r.limits.items) }
+    ensures lines { IfOk result (λ r. map (λ l. l.0) r.table.items ≡ table_in bits.now lines.now) }
+    ensures once { OnOk result (AllNameOnce bits.now lines.now) }
+    ensures rows { IfOk result (λ r. AreRows bits.now lines.now r.rows.items) }
 {
     let mut reading = Reading {
         allowed: Vec::new(alloc),
@@ -178,7 +127,7 @@ fn made(alloc: Global, bits: &Bits<'_>, reading: Reading) -> Result<(Rule, Vec<G
     ensures bits { IfOk result (λ r. r.0.bits ≡ length bits.now.names.items) }
     ensures allowed { IfOk result (λ r. r.0.allowed ≡ reading.allowed) }
     ensures limits { IfOk result (λ r. r.0.limits ≡ reading.limits) }
-    ensures table { IfOk result (λ r. length r.0.table.items ≡ length reading.table.items) }
+    ensures table { IfOk result (λ r. r.0.table.items ≡ map (λ l. l.0) reading.table.items) }
     ensures rows { IfOk result (λ r. r.1 ≡ reading.rows) }
 {
     let table = reading
@@ -198,8 +147,9 @@ pub fn rule_of(
 ) -> Result<Rule, Fault>
     ensures bits { IfOk result (λ r. r.bits ≡ length bits.now.names.items) }
     ensures patterns { IfOk result (λ r. r.allowed.items ≡ allowed_in bits.now lines.now) }
-    ensures limits { IfOk result (λ r. length r.limits.items ≡ count_of is_limit lines.now) }
-    ensures lines { IfOk result (λ r. length r.table.items ≡ count_of is_line lines.now) }
+    ensures limits { IfOk result (λ r. AreLimits bits.now lines.now r.limits.items) }
+    ensures lines { IfOk result (λ r. r.table.items ≡ table_in bits.now lines.now) }
+    ensures once { OnOk result (AllNameOnce bits.now lines.now) }
 {
     let (rule, _) = made(alloc, bits, reading_of(alloc, bits, lines)?)?;
     Ok(rule)
@@ -213,9 +163,10 @@ pub fn source_of(alloc: Global, text: &str) -> Result<Source<'_>, Fault>
     ensures names { IfOk result (λ s. map (λ n. n.now) s.bits.names.items ≡ map (λ t. bytes_of text.now t) s.file.bits.items) }
     ensures bits { IfOk result (λ s. s.rule.bits ≡ length s.bits.names.items) }
     ensures patterns { IfOk result (λ s. s.rule.allowed.items ≡ allowed_in s.bits s.file.lines.items) }
-    ensures limits { IfOk result (λ s. length s.rule.limits.items ≡ count_of is_limit s.file.lines.items) }
-    ensures lines { IfOk result (λ s. length s.rule.table.items ≡ count_of is_line s.file.lines.items) }
-    ensures rows { IfOk result (λ s. length s.rows.items ≡ count_of is_row s.file.lines.items) }
+    ensures limits { IfOk result (λ s. AreLimits s.bits s.file.lines.items s.rule.limits.items) }
+    ensures lines { IfOk result (λ s. s.rule.table.items ≡ table_in s.bits s.file.lines.items) }
+    ensures once { IfOk result (λ s. AllNameOnce s.bits s.file.lines.items) }
+    ensures rows { IfOk result (λ s. AreRows s.bits s.file.lines.items s.rows.items) }
 {
     let file = read(alloc, text)?;
     let bits = Bits::new(alloc, text, &file.bits)?;

@@ -1,5 +1,7 @@
-use Rattle.std.proofs.Common.{◌≡◌, length, take}
-use Rattle.rule_source.specs.Counted.{count_of, is_line, is_limit, is_row}
+use Rattle.std.proofs.Common.{◌≡◌, map, take}
+use Rattle.rule_source.specs.Effects.{AllNameOnce, table_in}
+use Rattle.rule_source.specs.Formulas.{AreLimits}
+use Rattle.rule_source.specs.Given.{AreRows}
 use Rattle.rule_source.specs.Patterns.{allowed_in}
 use Rattle.rule_source.proofs.source.reading_of.Given as goal
 
@@ -7,7 +9,8 @@ use Rattle.rule_source.proofs.source.reading_of.Given as goal
 abbrev pub invariant-loop-line : goal.invariant-loop-line
 invariant-loop-line l = record {
   patterns : l.reading.allowed.items ≡ allowed_in l.bits (take l.line-index l.lines);
-  limits : length l.reading.limits.items ≡ count_of is_limit (take l.line-index l.lines);
-  lines : length l.reading.table.items ≡ count_of is_line (take l.line-index l.lines);
-  rows : length l.reading.rows.items ≡ count_of is_row (take l.line-index l.lines);
+  limits : AreLimits l.bits (take l.line-index l.lines) l.reading.limits.items;
+  lines : map (λ p. p.0) l.reading.table.items ≡ table_in l.bits (take l.line-index l.lines);
+  once : AllNameOnce l.bits (take l.line-index l.lines);
+  rows : AreRows l.bits (take l.line-index l.lines) l.reading.rows.items;
 }
