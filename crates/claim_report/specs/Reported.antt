@@ -6,10 +6,10 @@ use Rattle.solve.specs.declared.answer.Answer.{Answer}
 use Rattle.solve.specs.Answers.{Answers}
 use Rattle.claim_report.specs.Subjects.{nothing, subject_from}
 use Rattle.claim_report.specs.Told.{told_of, columns_told}
-use Rattle.syntax.specs.declared.token.Token.{Token}
-use Rattle.syntax.specs.Covering.{Covers}
+use Rattle.tokens.specs.declared.token.Token.{Token}
+use Rattle.tokens.specs.Covering.{Covers}
 use Rattle.syntax.specs.Items.{read_words, view_items}
-use Rattle.syntax.specs.Views.{words}
+use Rattle.tokens.specs.Words.{words}
 use Rattle.claim_report.specs.declared.report.Form.{Form}
 use Rattle.claim_report.specs.declared.report.Form.TheVariants.{Rows, Columns}
 use Rattle.claim_report.specs.declared.report.Wish.{Wish}

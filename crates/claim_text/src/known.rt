@@ -2,7 +2,8 @@
 use crate::refusal::Refusal;
 use formulas::name::Name;
 use std::alloc::{AllocError, Global};
-use syntax::token::{Kind, tokens};
+use tokens::kind::Kind;
+use tokens::token::tokens;
 
 /// The names of the free sets, by their numbers, and those of the places and sets that are bound around, the innermost first.
 #[derive(Clone, Copy, Drop)]

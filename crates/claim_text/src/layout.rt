@@ -1,8 +1,8 @@
 // An expression as lines. One that is short stands on a line; of a longer one the operands stand on lines of their own, the operator before the second,
 // and what is said of bound names a step further in.
+use printing::print::expression;
 use std::alloc::AllocError;
 use syntax::operators::{CLOSED, EXTREME, NOT, sign, tightness_of};
-use syntax::print::expression;
 use trees::tree::{Binary, Expr, Name, Quantifier, Sort, Unary};
 
 // How long a line may be.

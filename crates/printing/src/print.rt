@@ -1,7 +1,20 @@
 // Prints a tree as a text that is read as the same tree.
-use crate::operators::{CLOSED, EXTREME, NOT, sign, tightness_of};
+ghost use Rattle.std.specs.Prelude.{◌≡◌, ◌∷◌, [], OnOk, IfOk, map, false, string_bytes};
+ghost use Rattle.tokens.specs.Spaced.{spaced};
+ghost use Rattle.syntax.specs.Plain.{names as all_names, written, list, open_, close, semicolon};
+ghost use Rattle.syntax.specs.Views.{names_of, view, view_all};
+ghost use Rattle.tokens.specs.declared.kind.Kind.TheVariants as kind;
+ghost use Rattle.tokens.specs.Words.{word};
+ghost use Rattle.syntax.specs.Items.{predicate as defined, view_parameters, view_item, view_items, sort_word, parameters as all_parameters, written_item, written_items};
+ghost use Rattle.syntax.specs.Printed.{enclosed, within_parens, text, texts, text_item};
+ghost use Rattle.printing.specs.Writing.{Writes, is_all};
+
+use crate::signs::{left_of, level, quantifier_word, right_of, sign_word, sort_word};
+use crate::writer::Writer;
 use std::alloc::{AllocError, Global};
-use trees::tree::{Expr, Item, Name, Parameter, Quantifier, Sort, Unary};
+use syntax::operators::{CLOSED, EXTREME, NOT};
+use tokens::kind::Kind;
+use trees::tree::{Expr, Item, Name, Parameter, Predicate, Quantifier, Sort, Unary};
 
 /// How many parentheses: as few as there have to be, or around every part that has operands.
 #[derive(Clone, Copy, Debug, PartialEq, Eq)]
@@ -10,186 +23,225 @@ pub enum Style {
     All,
 }
 
-fn level(expr: &Expr) -> u8 {
-    match expr {
-        Expr::Bound(_, _, _, _, _) => 0,
-        Expr::Unary(Unary::Not, _, _) => NOT,
-        Expr::Unary(Unary::Min, _, _) | Expr::Unary(Unary::Max, _, _) => EXTREME,
-        Expr::Binary(binary, _, _, _) => tightness_of(*binary).level,
-        _ => CLOSED,
+fn is_all(style: Style) -> bool
+    ensures { result ≡ is_all style }
+{
+    match style {
+        Style::Few => false,
+        Style::All => true,
     }
 }
 
-fn put_names(out: &mut String, names: &[Name]) -> Result<(), AllocError> {
-    let mut first = true;
-    for name in names {
-        if !first {
-            out.push_str(", ")?;
-        }
-        first = false;
-        out.push_str(name.text.as_str())?;
+// Names with commas between them.
+fn put_names(writer: &mut Writer, names: &[Name]) -> Result<(), AllocError>
+    ensures { OnOk result (Writes writer.old writer.new (λ rest. all_names (names_of names.now) rest)) }
+{
+    let [first, further @ ..] = names else {
+        return Ok(());
+    };
+    writer.word(Kind::Name, first.text.as_str())?;
+    for name in further {
+        writer.word(Kind::Comma, ",")?;
+        writer.word(Kind::Name, name.text.as_str())?;
     }
     Ok(())
 }
 
-fn quantifier_word(quantifier: Quantifier, sort: Sort) -> &'static str {
-    match (quantifier, sort) {
-        (Quantifier::Some, Sort::Place) => "ex1 ",
-        (Quantifier::Some, Sort::Set) => "ex2 ",
-        (Quantifier::All, Sort::Place) => "all1 ",
-        (Quantifier::All, Sort::Set) => "all2 ",
-    }
-}
-
-fn unary_word(unary: Unary) -> &'static str {
-    match unary {
-        Unary::Not => "~",
-        Unary::Min => "min ",
-        Unary::Max => "max ",
-        Unary::IsEmpty => "empty",
-    }
+// An expression in parentheses.
+#[cycle(printing)]
+fn put_enclosed(writer: &mut Writer, style: Style, expr: &Expr) -> Result<(), AllocError>
+    ensures { OnOk result (Writes writer.old writer.new (λ rest. open_ ∷ written (text (is_all style) (view expr.now)) (close ∷ rest))) }
+{
+    writer.word(Kind::Open, "(")?;
+    put(writer, style, expr)?;
+    writer.word(Kind::Close, ")")
 }
 
 // An operand, in parentheses where it binds less tight than it has to.
 #[cycle(printing)]
-fn put_operand(out: &mut String, style: Style, expr: &Expr, lowest: u8) -> Result<(), AllocError> {
-    let within = level(expr) < lowest || (style == Style::All && level(expr) < CLOSED);
-    if within {
-        out.push_str("(")?;
+fn put_operand(
+    writer: &mut Writer,
+    style: Style,
+    expr: &Expr,
+    lowest: u8,
+) -> Result<(), AllocError>
+    ensures { OnOk result (Writes writer.old writer.new (λ rest. written (enclosed (within_parens (is_all style) lowest (view expr.now)) (text (is_all style) (view expr.now))) rest)) }
+{
+    if level(expr) < lowest || (is_all(style) && level(expr) < CLOSED) {
+        put_enclosed(writer, style, expr)
+    } else {
+        put(writer, style, expr)
     }
-    put(out, style, expr)?;
-    if within {
-        out.push_str(")")?;
+}
+
+// Expressions with commas between them.
+#[cycle(printing)]
+fn put_all(writer: &mut Writer, style: Style, all: &[Expr]) -> Result<(), AllocError>
+    ensures { OnOk result (Writes writer.old writer.new (λ rest. list (texts (is_all style) (view_all all.now)) rest)) }
+{
+    let [first, further @ ..] = all else {
+        return Ok(());
+    };
+    put(writer, style, first)?;
+    for expr in further {
+        writer.word(Kind::Comma, ",")?;
+        put(writer, style, expr)?;
     }
     Ok(())
 }
 
 #[cycle(printing)]
-fn put_all(out: &mut String, style: Style, all: &[Expr]) -> Result<(), AllocError> {
-    let mut first = true;
-    for expr in all {
-        if !first {
-            out.push_str(", ")?;
-        }
-        first = false;
-        put(out, style, expr)?;
-    }
-    Ok(())
-}
-
-#[cycle(printing)]
-fn put(out: &mut String, style: Style, expr: &Expr) -> Result<(), AllocError> {
+fn put(writer: &mut Writer, style: Style, expr: &Expr) -> Result<(), AllocError>
+    ensures { OnOk result (Writes writer.old writer.new (λ rest. written (text (is_all style) (view expr.now)) rest)) }
+{
     match expr {
-        Expr::True(_) => out.push_str("true"),
-        Expr::False(_) => out.push_str("false"),
-        Expr::Empty(_) => out.push_str("empty"),
-        Expr::Number(n, _) => {
-            let number = format!(in *out.allocator(); "{n}")?;
-            out.push_str(number.as_str())
-        }
-        Expr::Named(name) => out.push_str(name.text.as_str()),
+        Expr::True(_) => writer.word(Kind::True, "true"),
+        Expr::False(_) => writer.word(Kind::False, "false"),
+        Expr::Empty(_) => writer.word(Kind::Empty, "empty"),
+        Expr::Number(n, _) => writer.number(*n),
+        Expr::Named(name) => writer.word(Kind::Name, name.text.as_str()),
         Expr::Listed(all, _) => {
-            out.push_str("{")?;
-            put_all(out, style, all)?;
-            out.push_str("}")
+            writer.word(Kind::OpenSet, "{")?;
+            put_all(writer, style, all)?;
+            writer.word(Kind::CloseSet, "}")
         }
         Expr::Call(name, all, _) => {
-            out.push_str(name.text.as_str())?;
-            out.push_str("(")?;
-            put_all(out, style, all)?;
-            out.push_str(")")
+            writer.word(Kind::Name, name.text.as_str())?;
+            writer.word(Kind::Open, "(")?;
+            put_all(writer, style, all)?;
+            writer.word(Kind::Close, ")")
         }
-        Expr::Unary(Unary::IsEmpty, inside, _) => {
-            out.push_str("empty(")?;
-            put(out, style, inside)?;
-            out.push_str(")")
-        }
-        Expr::Unary(unary, inside, _) => {
-            out.push_str(unary_word(*unary))?;
-            let lowest = if *unary == Unary::Not {
-                NOT + 1
-            } else {
-                EXTREME + 1
-            };
-            put_operand(out, style, inside, lowest)
-        }
+        Expr::Unary(unary, inside, _) => match unary {
+            Unary::Not => {
+                writer.word(Kind::Not, "~")?;
+                put_operand(writer, style, inside, NOT + 1)
+            }
+            Unary::Min => {
+                writer.word(Kind::Min, "min")?;
+                put_operand(writer, style, inside, EXTREME + 1)
+            }
+            Unary::Max => {
+                writer.word(Kind::Max, "max")?;
+                put_operand(writer, style, inside, EXTREME + 1)
+            }
+            Unary::IsEmpty => {
+                writer.word(Kind::Empty, "empty")?;
+                put_enclosed(writer, style, inside)
+            }
+        },
         Expr::Binary(binary, left, right, _) => {
-            let tight = tightness_of(*binary);
-            let first = if tight.right == tight.level {
-                tight.level + 1
-            } else {
-                tight.level
-            };
-            put_operand(out, style, left, first)?;
-            out.push_str(" ")?;
-            out.push_str(sign(*binary))?;
-            out.push_str(" ")?;
-            put_operand(out, style, right, tight.right)
+            let (kind, sign) = sign_word(*binary);
+            put_operand(writer, style, left, left_of(*binary))?;
+            writer.word(kind, sign)?;
+            put_operand(writer, style, right, right_of(*binary))
         }
         Expr::Bound(quantifier, sort, names, body, _) => {
-            out.push_str(quantifier_word(*quantifier, *sort))?;
-            put_names(out, names)?;
-            out.push_str(": ")?;
-            put_operand(out, style, body, 0)
+            let (kind, word) = quantifier_word(*quantifier, *sort);
+            writer.word(kind, word)?;
+            put_names(writer, names)?;
+            writer.word(Kind::Colon, ":")?;
+            put_operand(writer, style, body, 0)
         }
     }
 }
 
-fn sort_word(sort: Sort) -> &'static str {
-    match sort {
-        Sort::Place => "var1 ",
-        Sort::Set => "var2 ",
-    }
+// A parameter, behind its sort.
+fn put_parameter(writer: &mut Writer, parameter: &Parameter) -> Result<(), AllocError>
+    ensures { OnOk result (Writes writer.old writer.new (λ rest. sort_word parameter.now.sort ∷ word kind.Name (string_bytes parameter.now.name.text) ∷ rest)) }
+{
+    let (kind, word) = sort_word(parameter.sort);
+    writer.word(kind, word)?;
+    writer.word(Kind::Name, parameter.name.text.as_str())
 }
 
-fn put_parameters(out: &mut String, parameters: &[Parameter]) -> Result<(), AllocError> {
-    let mut first = true;
-    for parameter in parameters {
-        if !first {
-            out.push_str(", ")?;
-        }
-        first = false;
-        out.push_str(sort_word(parameter.sort))?;
-        out.push_str(parameter.name.text.as_str())?;
+// Parameters with commas between them.
+fn put_parameters(writer: &mut Writer, parameters: &[Parameter]) -> Result<(), AllocError>
+    ensures { OnOk result (Writes writer.old writer.new (λ rest. all_parameters (view_parameters parameters.now) rest)) }
+{
+    let [first, further @ ..] = parameters else {
+        return Ok(());
+    };
+    put_parameter(writer, first)?;
+    for parameter in further {
+        writer.word(Kind::Comma, ",")?;
+        put_parameter(writer, parameter)?;
     }
     Ok(())
 }
 
-fn put_item(out: &mut String, style: Style, item: &Item) -> Result<(), AllocError> {
+// Free names.
+fn put_free(writer: &mut Writer, sort: Sort, names: &[Name]) -> Result<(), AllocError>
+    ensures { OnOk result (Writes writer.old writer.new (λ rest. sort_word sort ∷ all_names (names_of names.now) (semicolon ∷ rest))) }
+{
+    let (kind, word) = sort_word(sort);
+    writer.word(kind, word)?;
+    put_names(writer, names)?;
+    writer.word(Kind::Semicolon, ";")
+}
+
+// A formula, and the end of its item.
+fn put_formula(writer: &mut Writer, style: Style, formula: &Expr) -> Result<(), AllocError>
+    ensures { OnOk result (Writes writer.old writer.new (λ rest. written (text (is_all style) (view formula.now)) (semicolon ∷ rest))) }
+{
+    put(writer, style, formula)?;
+    writer.word(Kind::Semicolon, ";")
+}
+
+fn put_predicate(
+    writer: &mut Writer,
+    style: Style,
+    predicate: &Predicate,
+) -> Result<(), AllocError>
+    ensures { OnOk result (Writes writer.old writer.new (λ rest. written_item (text_item (is_all style) (defined (string_bytes predicate.now.name.text) (view_parameters predicate.now.parameters.items) (view predicate.now.body))) rest)) }
+{
+    writer.word(Kind::Predicate, "pred")?;
+    writer.word(Kind::Name, predicate.name.text.as_str())?;
+    writer.word(Kind::Open, "(")?;
+    put_parameters(writer, &predicate.parameters)?;
+    writer.word(Kind::Close, ")")?;
+    writer.word(Kind::Equal, "=")?;
+    put_formula(writer, style, &predicate.body)
+}
+
+fn put_item(writer: &mut Writer, style: Style, item: &Item) -> Result<(), AllocError>
+    ensures { OnOk result (Writes writer.old writer.new (λ rest. written_item (text_item (is_all style) (view_item item.now)) rest)) }
+{
     match item {
-        Item::Free(sort, names) => {
-            out.push_str(sort_word(*sort))?;
-            put_names(out, names)?;
-        }
-        Item::Predicate(predicate) => {
-            out.push_str("pred ")?;
-            out.push_str(predicate.name.text.as_str())?;
-            out.push_str("(")?;
-            put_parameters(out, &predicate.parameters)?;
-            out.push_str(") = ")?;
-            put(out, style, &predicate.body)?;
-        }
+        Item::Free(sort, names) => put_free(writer, *sort, names),
+        Item::Predicate(predicate) => put_predicate(writer, style, predicate),
         Item::Assert(formula) => {
-            out.push_str("assert ")?;
-            put(out, style, formula)?;
+            writer.word(Kind::Assert, "assert")?;
+            put_formula(writer, style, formula)
         }
-        Item::Formula(formula) => put(out, style, formula)?,
+        Item::Formula(formula) => put_formula(writer, style, formula),
     }
-    out.push_str(";\n")
 }
 
-/// An expression as a text.
-pub fn expression(heap: Global, expr: &Expr) -> Result<String, AllocError> {
-    let mut out = String::new(heap);
-    put(&mut out, Style::Few, expr)?;
-    Ok(out)
+/// An expression as a text, with as few parentheses as there have to be.
+///
+/// # Errors
+///
+/// There is not enough memory.
+pub fn expression(heap: Global, expr: &Expr) -> Result<String, AllocError>
+    ensures { IfOk result (λ s. string_bytes s ≡ spaced (written (text false (view expr.now)) [])) }
+{
+    let mut writer = Writer::new(heap);
+    put(&mut writer, Style::Few, expr)?;
+    Ok(writer.into_text())
 }
 
-/// Items as a text, one a line.
-pub fn items(heap: Global, style: Style, items: &[Item]) -> Result<String, AllocError> {
-    let mut out = String::new(heap);
+/// Items as a text, one a line: the spaced words of their tree. `syntax::parse::read` reads them as these items, if their names are names where each
+/// stands alone.
+///
+/// # Errors
+///
+/// There is not enough memory.
+pub fn items(heap: Global, style: Style, items: &[Item]) -> Result<String, AllocError>
+    ensures { IfOk result (λ s. string_bytes s ≡ spaced (written_items (map (text_item (is_all style)) (view_items items.now)))) }
+{
+    let mut writer = Writer::new(heap);
     for item in items {
-        put_item(&mut out, style, item)?;
+        put_item(&mut writer, style, item)?;
     }
-    Ok(out)
+    Ok(writer.into_text())
 }

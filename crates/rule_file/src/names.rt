@@ -56,11 +56,11 @@ fn check_differ(text: &[u8], names: &[Token]) -> Result<(), Fault>
 
 // A name that formulas can have.
 fn check_formula_name(alloc: Global, text: &[u8], name: &Token) -> Result<(), Fault> {
-    match syntax::token::tokens(alloc, bytes(text, name)) {
-        Err(syntax::fault::Fault::Memory) => Err(Fault::OutOfMemory),
+    match tokens::token::tokens(alloc, bytes(text, name)) {
+        Err(tokens::token::NoToken::Memory) => Err(Fault::OutOfMemory),
         Err(_) => Err(Fault::Reserved(*name)),
         Ok(read) => match &*read {
-            [word] if word.kind == syntax::token::Kind::Name => Ok(()),
+            [word] if word.kind == tokens::kind::Kind::Name => Ok(()),
             _ => Err(Fault::Reserved(*name)),
         },
     }

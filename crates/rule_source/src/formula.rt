@@ -16,7 +16,8 @@ use resolve::asked::{Stated, ask};
 use rule_file::token::Token;
 use std::alloc::{AllocError, Global};
 use syntax::parse::read;
-use syntax::token::{Kind, tokens};
+use tokens::kind::Kind;
+use tokens::token::tokens;
 use trees::position::Span;
 use trees::tree::{Item, Name, Sort};
 
@@ -110,7 +111,8 @@ fn check_one(alloc: Global, composed: &Composed) -> Result<(), Fault> {
     let bytes = composed.text.as_bytes();
     let all = match tokens(alloc, bytes) {
         Ok(all) => all,
-        Err(fault) => {
+        Err(none) => {
+            let fault = syntax::fault::Fault::from(none);
             return Err(composed.fault(fault.message(alloc, composed.quoted())?, fault.span()));
         }
     };

@@ -3,11 +3,11 @@ ghost use Rattle.std.specs.Prelude.{◌≡◌};
 ghost use Rattle.syntax.specs.Views.{fault_of};
 ghost use Rattle.syntax.specs.declared.fault.Fault.TheVariants.{Memory};
 
+use std::alloc::{AllocError, AllocFailed, Global};
+use std::str::from_utf8;
 use tokens::foreign::foreign_reason;
 use tokens::kind::{Kind, spelling};
 use tokens::token::NoToken;
-use std::alloc::{AllocError, AllocFailed, Global};
-use std::str::from_utf8;
 use trees::position::Span;
 
 /// What could stand at a place.

@@ -12,8 +12,8 @@ use crate::expression::MOST_OPEN;
 use crate::fault::Fault;
 use crate::items::items;
 use crate::source::Source;
-use tokens::token::{Token, tokens};
 use std::alloc::Global;
+use tokens::token::{Token, tokens};
 use trees::tree::Item;
 
 // Where the last token ends.

@@ -6,10 +6,10 @@ ghost use Rattle.syntax.specs.Views.{Gives, names_of};
 
 use crate::fault::{Fault, Wanted};
 use crate::operators::{binary, tightness_of};
-use tokens::kind::Kind;
-use tokens::token::Token;
 use std::alloc::Global;
 use std::str::from_utf8;
+use tokens::kind::Kind;
+use tokens::token::Token;
 use trees::position::Span;
 use trees::tree::{Binary, Name};
 

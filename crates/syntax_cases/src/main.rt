@@ -1,11 +1,11 @@
 // Reads texts, with a line `----` behind each, and prints what is read of them, or the fault. What is printed is read again: the two trees must be the same.
 #![tactic(auto)]
 
+use printing::print::{Style, items};
 use std::alloc::{AllocError, Global};
 use std::io::{BufRead, BufReader};
 use syntax::fault::Fault;
 use syntax::parse::read;
-use syntax::print::{Style, items};
 use trees::beside::beside;
 
 // A fault as it is shown, or its message where nothing in the text is at fault.

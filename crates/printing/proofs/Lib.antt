@@ -1,0 +1,4 @@
+-- Lemmas on printing.
+pub mod SignsLaws
+pub mod WritingLaws
+pub mod TreesLaws
