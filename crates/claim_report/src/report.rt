@@ -100,12 +100,7 @@ fn in_words(alloc: Global, items: &[Item], answer: &Answer) -> Result<String, Al
 }
 
 // An answer, in either form.
-fn told_of(
-    alloc: Global,
-    items: &[Item],
-    answer: &Answer,
-    form: Form,
-) -> Result<String, AllocError>
+fn told_of(alloc: Global, items: &[Item], answer: &Answer, form: Form) -> Result<String, AllocError>
     ensures { IfOk result (λ words. string_bytes words ≡ told form items.now answer.now) }
 {
     match form {

@@ -1,6 +1,6 @@
 -- What is asked, item by item.
-use Rattle.std.proofs.Common.{◌≡◌, ℕ, ◌↔◌, List, [], ◌∷◌, ◌++◌, sym, subst, ap, ◌∙◌, append_assoc}
-use Rattle.std.proofs.lemmas.List.{map-append}
+use Rattle.std.proofs.Common.{◌≡◌, ℕ, ◌<◌, ◌↔◌, List, [], ◌∷◌, ◌++◌, length, refl, sym, subst, ap, ◌∙◌, append_assoc, arith}
+use Rattle.std.proofs.lemmas.List.{map-append, append-nil}
 use Rattle.formulas.specs.Meaning.{Env, Meaning}
 use Rattle.trees.specs.declared.tree.Name.{Name}
 use Rattle.trees.specs.declared.tree.Sort.{Sort}
@@ -19,6 +19,17 @@ all_hold_more [] s e = (λ h. (tt, h.0), λ h. (h.1, tt))
 all_hold_more (t ∷ l) s e =
     let rest = all_hold_more l s e in
     (λ h. ((h.0, (rest.0 h.1).0), (rest.0 h.1).1), λ h. (h.0.0, rest.1 (h.0.1, h.1)))
+
+pub nothing_more : (old : Asked) (items : List Item) (n : ℕ) (s : Env → Context) → length items < 1 → AsksMore old old (declared items) (λ l m. Written items n s l m)
+nothing_more old [] n s le = record {
+  names = sym (append-nil (free old.free.items));
+  assumed = [];
+  claimed = [];
+  with_assumed = sym (append-nil old.assumed.items);
+  with_claimed = sym (append-nil old.claimed.items);
+  written = (refl, refl);
+}
+nothing_more old (item ∷ items) n s le = absurd (omega arith)
 
 -- one assumption more, then the rest
 pub assumed_more : (old mid new : Asked) (more : List (Name × Sort)) (items : List Item) (n : ℕ) (s : Env → Context) (x : Stated) (a : Expr) →

@@ -1,5 +1,5 @@
 -- Parts are smaller than what they are parts of.
-use Rattle.std.proofs.Common.{◌≡◌, ℕ, suc, ◌+◌, ◌<◌, ◌≤◌, ◌⊎◌, inl, inr, List, [], ◌∷◌, ◌++◌, map, take, position, slice_get, Option, Some, None, string_bytes, refl, ap, arith}
+use Rattle.std.proofs.Common.{◌≡◌, ℕ, zero, suc, ◌+◌, ◌<◌, ◌≤◌, ◌⊎◌, inl, inr, List, [], ◌∷◌, ◌++◌, map, take, position, slice_get, Option, Some, None, string_bytes, refl, ap, arith}
 use Rattle.formulas.specs.declared.formula.Formula.{Formula}
 use Rattle.trees.specs.declared.tree.Unary.TheVariants.{Not, Min, Max, IsEmpty}
 use Rattle.trees.specs.declared.tree.Binary.{Binary}
@@ -61,10 +61,10 @@ body_behind item before (Some (Defined p)) f q m g h =
 -- the body of a predicate, and those of the predicates before it, are among the bodies
 body_smaller : (known : List Item) (i : ℕ) (f : Formula) (q : Piece) → Among q (body_of (take i known) (slice_get known i) f) → weight q ≤ bodies known
 body_smaller [] i f q h = absurd h
-body_smaller (Free sort names ∷ items) 0 f q h = absurd h
-body_smaller (Assert a ∷ items) 0 f q h = absurd h
-body_smaller (Claimed a ∷ items) 0 f q h = absurd h
-body_smaller (Defined p ∷ items) 0 f q h = elim h [ inl e ↦ omega (arith, ap weight e) | inr n ↦ absurd n ]
+body_smaller (Free sort names ∷ items) zero f q h = absurd h
+body_smaller (Assert a ∷ items) zero f q h = absurd h
+body_smaller (Claimed a ∷ items) zero f q h = absurd h
+body_smaller (Defined p ∷ items) zero f q h = elim h [ inl e ↦ omega (arith, ap weight e) | inr n ↦ absurd n ]
 body_smaller (item ∷ items) (suc i) f q h =
     let w = body_behind item (take i items) (slice_get items i) f q (bodies items) (λ r k. body_smaller items i f r k) h in
     let b = bodies_behind item items in

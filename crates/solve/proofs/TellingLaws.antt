@@ -19,7 +19,9 @@ tells s n (First w) f l a c =
     let found = f (sets_needed l a) (whole l a) c.claim in
     (found.0, ((c.says w.items).0 found.1.holds, λ u columns less h. found.1.first u columns less ((c.says u).1 h)))
 tells s n Nothing f l a c =
-    let found = f (sets_needed l a) (whole l a) c.claim in
-    (found.0, λ e m. let word = c.chosen e in
-    found.1 word.0 (columns_wider (length l) (sets_needed l a) word.0 (omega arith) word.1.columns) (word.2.1 m))
+    let found = f (sets_needed l a) (whole l a) c.claim in (
+      found.0,
+      λ e m. let word = c.chosen e in
+          found.1 word.0 (columns_wider (length l) (sets_needed l a) word.0 (omega arith) word.1.columns) (word.2.1 m),
+    )
 tells s n TooLarge f l a c = f (sets_needed l a) (whole l a) c.claim

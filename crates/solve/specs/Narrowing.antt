@@ -10,7 +10,8 @@ use Rattle.trees.specs.declared.position.Span.{Span}
 use Rattle.trees.specs.declared.tree.Item.{Item}
 use Rattle.resolve.specs.Asks.{Asks}
 use Rattle.resolve.specs.Faults.{Among}
-use Rattle.resolve.specs.Parts.{Piece, Within, parts, statements}
+use Rattle.resolve.specs.Parts.{Piece, Within, piece_of, parts, statements}
+use Rattle.resolve.specs.declared.narrow.Part.{Part}
 use Rattle.resolve.specs.declared.asked.Asked.{Asked}
 use Rattle.solve.specs.Telling.{IsWithin}
 
@@ -41,6 +42,11 @@ IsSmall n a = CanBeJudged n a → IsWithin (own_names a) a n
 -- each of the pieces is small
 abbrev pub AllSmall : ℕ → List Piece → Type 0
 AllSmall n l = (p : Piece) → Among p l → IsSmall n p.formula
+
+-- one of the pieces that is large; none where each is small
+abbrev pub IsLargeOf : ℕ → List Piece → Option Part → Type 0
+IsLargeOf n l None = AllSmall n l
+IsLargeOf n l (Some p) = Among (piece_of p) l × IsLarge n p.formula.now
 
 -- a piece is large, and none of its parts is
 abbrev pub IsInnermost : ℕ → Piece → Type 0

@@ -1,13 +1,7 @@
 // Where too much is told apart: the innermost part of a text that is too large by itself.
-ghost use Rattle.std.specs.Prelude.{◌≡◌, map, IfOk, OnOk, MatchBool, MatchOption, List};
-ghost use Rattle.claims.specs.Rows.{IsClaim};
-ghost use Rattle.formulas.specs.declared.name.Name.{Name as Numbered};
-ghost use Rattle.formulas.specs.declared.formula.Formula.{Formula as Tree};
-ghost use Rattle.formula_claims.specs.Claimed.{Claimed};
-ghost use Rattle.room.specs.Floor.{floor_words};
-ghost use Rattle.resolve.specs.Faults.{Among};
-ghost use Rattle.resolve.specs.Parts.{Within, piece_of};
-ghost use Rattle.solve.specs.Narrowing.{with_name, with_names, own_names, IsLarge, IsSmall, AllSmall, IsInnermost, NamesPart, Narrowest};
+ghost use Rattle.std.specs.Prelude.{◌≡◌, map, IfOk, OnOk, MatchBool};
+ghost use Rattle.resolve.specs.Parts.{Within, piece_of, parts as parts_of, statements as statements_of};
+ghost use Rattle.solve.specs.Narrowing.{with_name, with_names, own_names, IsLarge, IsSmall, IsLargeOf, IsInnermost, NamesPart, Narrowest};
 
 use crate::first::first_row;
 use crate::stop::Stop;
@@ -82,7 +76,7 @@ fn first_large<'t, 'f>(
     all: &[Part<'t, 'f>],
     n: u32,
 ) -> Result<Option<Part<'t, 'f>>, Stop>
-    ensures { IfOk result (λ found. MatchOption found (AllSmall n (map piece_of all.now)) (λ p. Among (piece_of p) (map piece_of all.now) × IsLarge n p.formula.now)) }
+    ensures { IfOk result (λ found. IsLargeOf n (map piece_of all.now) found) }
 {
     let [first, others @ ..] = all else {
         return Ok(None);
@@ -93,20 +87,41 @@ fn first_large<'t, 'f>(
     first_large(alloc, others, n)
 }
 
-// The innermost part of a part that is too large, where that is: too large itself, and none of its parts is.
-fn innermost<'t, 'f>(
+// The first part of a part that is too large.
+fn large_part<'t, 'f>(
     alloc: Global,
-    whole: Part<'t, 'f>,
+    part: Part<'t, 'f>,
     n: u32,
-) -> Result<Part<'t, 'f>, Stop>
-    requires { IsLarge n whole.entry.formula.now }
+) -> Result<Option<Part<'t, 'f>>, Stop>
+    ensures { IfOk result (λ found. IsLargeOf n (parts_of (piece_of part.entry)) found) }
+{
+    let inner = parts(alloc, part)?;
+    first_large(alloc, &inner, n)
+}
+
+// The innermost part that is too large of one that is. The invariant: so far each is too large and a part of the one before. Parts are smaller than what they are parts of, so this ends.
+fn innermost<'t, 'f>(alloc: Global, whole: Part<'t, 'f>, n: u32) -> Result<Part<'t, 'f>, Stop>
+    requires { IsLarge n whole.formula.now }
     ensures { IfOk result (λ p. Within (piece_of whole.entry) (piece_of p) × IsInnermost n (piece_of p)) }
 {
     let mut part = whole;
-    while let Some(inner) = first_large(alloc, &parts(alloc, part)?, n)? {
+    while let Some(inner) = large_part(alloc, part, n)? {
         part = inner;
     }
     Ok(part)
+}
+
+// The first assumption or claim that is too large.
+fn large_statement<'t, 'f>(
+    alloc: Global,
+    items: &'t [Item],
+    asked: &'f Asked<'t>,
+    n: u32,
+) -> Result<Option<Part<'t, 'f>>, Stop>
+    ensures { IfOk result (λ found. IsLargeOf n (statements_of items.now asked.now) found) }
+{
+    let all = statements(alloc, items, asked)?;
+    first_large(alloc, &all, n)
 }
 
 // The same in what is asked.
@@ -118,7 +133,7 @@ fn narrowest_of(
 ) -> Result<Option<Span>, Stop>
     ensures { IfOk result (λ found. NamesPart items.now asked.now n found) }
 {
-    match first_large(alloc, &statements(alloc, items, asked)?, n)? {
+    match large_statement(alloc, items, asked, n)? {
         Some(whole) => Ok(Some(innermost(alloc, whole, n)?.expr.span())),
         None => Ok(None),
     }

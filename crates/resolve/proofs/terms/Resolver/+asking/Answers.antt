@@ -9,8 +9,11 @@ use Rattle.trees.specs.declared.tree.Name.{Name}
 use Rattle.resolve.specs.Faults.{Faulty, FaultyText}
 use Rattle.resolve.specs.declared.fault.Class.TheVariants.{Formula}
 use Rattle.resolve.proofs.TextFaultsLaws.{text_tail, text_passed, InNames, names_more}
-use Rattle.resolve.proofs.AsksLaws.{assumed_more, claimed_more, name_more, rest_same, written_same}
+use Rattle.resolve.proofs.AsksLaws.{nothing_more, assumed_more, claimed_more, name_more, rest_same, written_same}
 use Rattle.resolve.proofs.terms.Resolver.+asking.Goals as goal
+
+pub items-returns-in_default-clause-says : goal.items-returns-in_default-clause-says
+items-returns-in_default-clause-says t c = nothing_more c.args.asked.now c.args.items.now c.args.level (λ e. context c.args.scope.now e) c.in_default.len_below
 
 pub items-returns-in-Free-clause-says : goal.items-returns-in-Free-clause-says
 items-returns-in-Free-clause-says t c =
