@@ -1,5 +1,6 @@
 -- What is printed of an answer; the smallest automaton of a claim.
 pub mod Told
 pub mod Subjects
+pub mod Placed
 pub mod Reported
 pub mod Drawn

@@ -1,6 +1,6 @@
 // The smallest automaton of a text's claim, for people and for Graphviz.
 ghost use Rattle.std.specs.Prelude.{IfOk};
-ghost use Rattle.claim_report.specs.Drawn.{IsAutomaton};
+ghost use Rattle.claim_report.specs.Drawn.{IsAutomaton, IsDrawn};
 
 use crate::declared::names_of;
 use crate::stop::Stop;
@@ -47,13 +47,18 @@ pub fn smallest_automaton(
     }
 }
 
-/// The automaton in words. Fails for memory.
+/// The automaton in words.
+///
+/// # Errors
+/// That a set on which it depends has no name, and memory.
 pub fn drawn(
     alloc: Global,
     items: &[Item],
     automaton: &Automaton,
     drawing: Drawing,
-) -> Result<String, Stop> {
+) -> Result<String, Stop>
+    ensures { IfOk result (λ _. IsDrawn items.now automaton.now) }
+{
     let names = names_of(alloc, items)?;
     let diagram = match state_diagram(alloc, automaton, &names) {
         Ok(diagram) => diagram,

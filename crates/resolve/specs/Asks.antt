@@ -1,11 +1,12 @@
 -- What is asked of a text: formulas over numbers, of which each is true exactly where what it was made of is.
-use Rattle.std.specs.Prelude.{◌≡◌, ◌++◌, map, ◌↔◌, List, [], ◌∷◌}
+use Rattle.std.specs.Prelude.{◌≡◌, ℕ, ◌++◌, map, ◌↔◌, List, [], ◌∷◌}
 use Rattle.formulas.specs.Meaning.{Env, Meaning}
 use Rattle.trees.specs.declared.tree.Name.{Name}
 use Rattle.trees.specs.declared.tree.Sort.{Sort}
+use Rattle.trees.specs.declared.tree.Expr.{Expr}
 use Rattle.trees.specs.declared.tree.Item.{Item}
 use Rattle.trees.specs.declared.tree.Item.TheVariants.{Free, Predicate as defined, Assert, Formula}
-use Rattle.resolve.specs.Says.{Text, text}
+use Rattle.resolve.specs.Says.{Context, text, nothing, holds, declare, define, count}
 use Rattle.resolve.specs.declared.scope.Free.{Free as Declared}
 use Rattle.resolve.specs.declared.asked.Stated.{Stated}
 use Rattle.resolve.specs.declared.asked.Asked.{Asked}
@@ -25,14 +26,32 @@ abbrev pub all_hold : List Stated → Env → Type 0
 all_hold [] e = Unit {0}
 all_hold (s ∷ l) e = Meaning s.formula e × all_hold l e
 
--- the declared names, and formulas that are true of exactly the places and sets of which the text's assumptions are, and its claims
+-- this expression, and a formula that is true of exactly the places and sets of which it holds where the names stand for what s says
+abbrev pub Renders : Stated → Expr → (Env → Context) → Type 0
+Renders x a s = (x.expr.now ≡ a) × ((e : Env) → Meaning x.formula e ↔ holds a (s e))
+
+-- the assumptions and the claims of the items, one after the other, where the names before them stand for what s says and the declared ones are numbered from n on
+abbrev pub Written : List Item → ℕ → (Env → Context) → List Stated → List Stated → Type 0
+Written [] n s l m = (l ≡ []) × (m ≡ [])
+Written (Free sort names ∷ items) n s l m = Written items (count n names.items) (λ e. declare sort names.items n e (s e)) l m
+Written (defined p ∷ items) n s l m = Written items n (λ e. define p (s e)) l m
+Written (Assert a ∷ items) n s [] m = ⊥
+Written (Assert a ∷ items) n s (x ∷ l) m = Renders x a s × Written items n s l m
+Written (Formula a ∷ items) n s l [] = ⊥
+Written (Formula a ∷ items) n s l (x ∷ m) = Renders x a s × Written items n s l m
+
+-- the declared names; the assumptions and the claims, each as it stands there and as a formula; and that these formulas together are true of exactly the places and sets of which the text's assumptions are, and its claims
 pub record Asks (items : List Item) (asked : Asked) : Type 0 where
   pub names : free asked.free.items ≡ declared items
+  pub written : Written items 0 (λ e. nothing) asked.assumed.items asked.claimed.items
   pub assumed : (e : Env) → all_hold asked.assumed.items e ↔ (text items e).assumed
   pub claimed : (e : Env) → all_hold asked.claimed.items e ↔ (text items e).claimed
 
--- the same with what was asked before, where the text goes on in a scope with n declared names
-pub record AsksMore (old new : Asked) (more : List (Name × Sort)) (rest : Env → Text) : Type 0 where
+-- what was asked before, then more: names, and assumptions and claims that are as the rest says
+pub record AsksMore (old new : Asked) (more : List (Name × Sort)) (rest : List Stated → List Stated → Type 0) : Type 0 where
   pub names : free new.free.items ≡ free old.free.items ++ more
-  pub assumed : (e : Env) → all_hold new.assumed.items e ↔ (all_hold old.assumed.items e × (rest e).assumed)
-  pub claimed : (e : Env) → all_hold new.claimed.items e ↔ (all_hold old.claimed.items e × (rest e).claimed)
+  pub assumed : List Stated
+  pub claimed : List Stated
+  pub with_assumed : new.assumed.items ≡ old.assumed.items ++ assumed
+  pub with_claimed : new.claimed.items ≡ old.claimed.items ++ claimed
+  pub written : rest assumed claimed

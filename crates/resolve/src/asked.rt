@@ -1,11 +1,11 @@
 // What a text asks: its declared names, what is assumed of them, and what is claimed.
 ghost use Rattle.std.specs.Prelude.{◌≡◌, ℕ, ◌++◌, ◌↔◌, ◌⊎◌, map, IfOk, IfErr, OnOk};
-ghost use Rattle.formulas.specs.Meaning.{Env, Meaning};
-ghost use Rattle.resolve.specs.Says.{text_from, declare, count};
+ghost use Rattle.formulas.specs.Meaning.{Env};
+ghost use Rattle.resolve.specs.Says.{declare, count};
 ghost use Rattle.resolve.specs.Scopes.{context, signature, Steady};
 ghost use Rattle.resolve.specs.Faults.{Faulty, FaultyText, NamedAgain, IsLimit, outermost, with_names, with_parameters};
 ghost use Rattle.resolve.specs.declared.fault.Class.TheVariants.{Formula as OfFormula};
-ghost use Rattle.resolve.specs.Asks.{Asks, AsksMore, declared, all_hold};
+ghost use Rattle.resolve.specs.Asks.{Asks, AsksMore, Written, declared};
 
 use crate::fault::Fault;
 use crate::scope::{Free, Scope, defined, named};
@@ -82,7 +82,7 @@ impl Resolver {
     where
         'a: 's,
         requires { Steady level scope.now }
-        ensures says { OnOk result (AsksMore asked.old asked.new (declared items.now) (λ e. text_from items.now level e (context scope.now e))) }
+        ensures says { OnOk result (AsksMore asked.old asked.new (declared items.now) (λ l m. Written items.now level (λ e. context scope.now e) l m)) }
         ensures faults { IfErr result (λ f. IsLimit f ⊎ FaultyText items.now (signature scope.now) f) }
     {
         let [first, rest @ ..] = items else {
@@ -141,7 +141,7 @@ impl Resolver {
     where
         'a: 's,
         requires { Steady level scope.now }
-        ensures says { OnOk result (AsksMore asked.old asked.new (map (λ x. (x, sort)) names.now ++ declared rest.now) (λ e. text_from rest.now (count level names.now) e (declare sort names.now level e (context scope.now e)))) }
+        ensures says { OnOk result (AsksMore asked.old asked.new (map (λ x. (x, sort)) names.now ++ declared rest.now) (λ l m. Written rest.now (count level names.now) (λ e. declare sort names.now level e (context scope.now e)) l m)) }
         ensures faults { IfErr result (λ f. IsLimit f ⊎ (NamedAgain sort names.now (signature scope.now) f ⊎ FaultyText rest.now (with_names sort names.now (signature scope.now)) f)) }
     {
         let calls = inner(calls, span)?;

@@ -1,11 +1,11 @@
 // Why a text that can be read says nothing: a name that is not declared, a set where a place must stand, and the like.
 ghost use Rattle.std.specs.Prelude.{◌≡◌};
 ghost use Rattle.resolve.specs.declared.fault.Fault.TheVariants.{Memory};
+ghost use Rattle.resolve.specs.Standing.{standing};
 
 use std::alloc::{AllocError, AllocFailed, Global};
 use std::str::from_utf8;
 use trees::position::Span;
-use trees::tree::Sort;
 
 /// What an expression stands for.
 #[derive(Clone, Copy, Debug, PartialEq, Eq)]
@@ -48,14 +48,6 @@ impl<T: Drop> From<AllocFailed<T>> for Fault {
 }
 
 impl Class {
-    /// What a name of a sort stands for.
-    pub fn of(sort: Sort) -> Class {
-        match sort {
-            Sort::Place => Class::Place,
-            Sort::Set => Class::Set,
-        }
-    }
-
     fn word(self) -> &'static str {
         match self {
             Class::Formula => "a formula",
@@ -67,7 +59,9 @@ impl Class {
 
 impl Fault {
     /// Where it stands; without memory nothing in the text is at fault.
-    pub fn span(&self) -> Option<Span> {
+    pub fn span(&self) -> Option<Span>
+        ensures { result ≡ standing self.now }
+    {
         match self {
             Fault::Class(_, _, span)
             | Fault::Number(span)

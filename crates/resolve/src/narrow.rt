@@ -1,92 +1,212 @@
 // The parts of a formula, as they stand in the text and as formulas over numbers.
-use crate::fault::Fault;
+ghost use Rattle.std.specs.Prelude.{◌≡◌, ◌++◌, [], ◌∷◌, map, position, string_bytes, IfOk, OnOk, MatchOption, Some, None};
+ghost use Rattle.resolve.specs.Parts.{piece_of, denied as denied_of, implied, halves as halves_of, under as under_of, defines as defines_of, one, two, called as called_of, parts as parts_of, stated_by, statements as statements_of};
+
+use crate::asked::{Asked, Stated};
 use crate::scope::is_same;
 use formulas::formula::Formula;
-use std::alloc::Global;
+use std::alloc::{AllocError, Global};
 use trees::tree::{Binary, Expr, Item, Name, Unary};
 
+/// What stands in a text, that as a formula, and the items whose predicates are known there.
 #[derive(Clone, Copy)]
-pub struct Part<'t> {
+pub struct Part<'t, 'f> {
+    pub known: &'t [Item],
     pub expr: &'t Expr,
-    pub formula: &'t Formula,
+    pub formula: &'f Formula,
 }
 
-// What a quantifier over n names says of them.
-fn under<'t>(n: usize, formula: &'t Formula) -> &'t Formula {
-    let mut inside = formula;
-    for _ in 0..n {
-        match inside {
-            Formula::Some1(_, body)
-            | Formula::All1(_, body)
-            | Formula::Some2(_, body)
-            | Formula::All2(_, body) => inside = body,
-            _ => return inside,
-        }
+// What quantifiers over the names say something of.
+fn under<'f>(names: &[Name], formula: &'f Formula) -> &'f Formula
+    ensures { result.now ≡ under_of names.now formula.now }
+{
+    let [_, others @ ..] = names else {
+        return formula;
+    };
+    match formula {
+        Formula::Some1(_, body)
+        | Formula::All1(_, body)
+        | Formula::Some2(_, body)
+        | Formula::All2(_, body) => under(others, body),
+        _ => formula,
     }
-    inside
 }
 
-// The body of a predicate.
-fn body<'t>(items: &'t [Item], name: &Name) -> Option<&'t Expr> {
-    for item in items {
-        if let Item::Predicate(predicate) = item {
-            if is_same(&predicate.name, name) {
-                return Some(&predicate.body);
-            }
-        }
+// The formula that is denied.
+fn denied(formula: &Formula) -> Option<&Formula>
+    ensures { MatchOption result (denied_of formula.now ≡ None) (λ f. denied_of formula.now ≡ Some f.now) }
+{
+    match formula {
+        Formula::Not(inside) => Some(&**inside),
+        _ => None,
     }
-    None
 }
 
-// The two parts of a formula with a connective.
-fn halves<'t>(binary: Binary, formula: &'t Formula) -> Option<(&'t Formula, &'t Formula)> {
+fn implication(formula: &Formula) -> Option<(&Formula, &Formula)>
+    ensures { MatchOption result (implied formula.now ≡ None) (λ h. implied formula.now ≡ Some (h.0.now, h.1.now)) }
+{
+    match formula {
+        Formula::Implies(a, b) => Some((&**a, &**b)),
+        _ => None,
+    }
+}
+
+// The two formulas that a connective joins.
+fn halves<'f>(binary: Binary, formula: &'f Formula) -> Option<(&'f Formula, &'f Formula)>
+    ensures { MatchOption result (halves_of binary formula.now ≡ None) (λ h. halves_of binary formula.now ≡ Some (h.0.now, h.1.now)) }
+{
     match (binary, formula) {
         (Binary::And, Formula::And(a, b))
         | (Binary::Or, Formula::Or(a, b))
-        | (Binary::Implies, Formula::Implies(a, b)) => Some((a, b)),
-        (Binary::Iff, Formula::And(first, _)) => halves_of_implies(first),
+        | (Binary::Implies, Formula::Implies(a, b)) => Some((&**a, &**b)),
+        (Binary::Iff, Formula::And(first, _)) => implication(first),
         _ => None,
     }
 }
 
-fn halves_of_implies(formula: &Formula) -> Option<(&Formula, &Formula)> {
-    match formula {
-        Formula::Implies(a, b) => Some((a, b)),
-        _ => None,
+// Whether an item defines the predicate of this name.
+fn defines(item: &Item, name: &Name) -> bool
+    ensures { result ≡ defines_of (string_bytes name.now.text) item.now }
+{
+    match item {
+        Item::Predicate(predicate) => is_same(&predicate.name, name),
+        _ => false,
     }
 }
 
-// The parts of a part that are formulas; of a predicate it is its body.
-pub fn parts<'t>(heap: Global, items: &'t [Item], part: Part<'t>) -> Result<Vec<Part<'t>>, Fault> {
-    let mut all = Vec::new(heap);
-    match (part.expr, part.formula) {
-        (Expr::Unary(Unary::Not, expr, _), Formula::Not(formula)) => {
-            all.push(Part { expr, formula })?;
-        }
-        (Expr::Binary(binary, a, b, _), formula) => {
-            if let Some((first, second)) = halves(*binary, formula) {
-                all.push(Part {
-                    expr: a,
-                    formula: first,
-                })?;
-                all.push(Part {
-                    expr: b,
-                    formula: second,
-                })?;
-            }
-        }
-        (Expr::Bound(_, _, names, expr, _), formula) => {
-            all.push(Part {
+// Which item defines the predicate of this name.
+fn definition(known: &[Item], name: &Name) -> Option<usize>
+    ensures { result ≡ position (defines_of (string_bytes name.now.text)) known.now }
+{
+    known.iter().position(|item| defines(item, name))
+}
+
+// The body of a called predicate, which knows the predicates before it.
+fn called<'t, 'f>(
+    heap: Global,
+    known: &'t [Item],
+    name: &Name,
+    formula: &'f Formula,
+) -> Result<Vec<Part<'t, 'f>>, AllocError>
+    ensures { IfOk result (λ all. map piece_of all.items ≡ called_of known.now (position (defines_of (string_bytes name.now.text)) known.now) formula.now) }
+{
+    let Some(i) = definition(known, name) else {
+        return Ok(Vec::new(heap));
+    };
+    let Some(Item::Predicate(predicate)) = known.get(i) else {
+        return Ok(Vec::new(heap));
+    };
+    let body = Part {
+        known: &known[..i],
+        expr: &predicate.body,
+        formula,
+    };
+    Ok(Vec::from_array(heap, [body])?)
+}
+
+// The part that a formula denies.
+fn opposite<'t, 'f>(
+    heap: Global,
+    known: &'t [Item],
+    expr: &'t Expr,
+    formula: &'f Formula,
+) -> Result<Vec<Part<'t, 'f>>, AllocError>
+    ensures { IfOk result (λ all. map piece_of all.items ≡ one known.now expr.now (denied_of formula.now)) }
+{
+    match denied(formula) {
+        Some(formula) => Ok(Vec::from_array(
+            heap,
+            [Part {
+                known,
                 expr,
-                formula: under(names.len(), formula),
-            })?;
-        }
-        (Expr::Call(name, _, _), formula) => {
-            if let Some(expr) = body(items, name) {
-                all.push(Part { expr, formula })?;
-            }
-        }
-        _ => {}
+                formula,
+            }],
+        )?),
+        None => Ok(Vec::new(heap)),
     }
+}
+
+// The two parts that a connective joins.
+fn joined<'t, 'f>(
+    heap: Global,
+    known: &'t [Item],
+    binary: Binary,
+    a: &'t Expr,
+    b: &'t Expr,
+    formula: &'f Formula,
+) -> Result<Vec<Part<'t, 'f>>, AllocError>
+    ensures { IfOk result (λ all. map piece_of all.items ≡ two known.now a.now b.now (halves_of binary formula.now)) }
+{
+    match halves(binary, formula) {
+        Some((first, second)) => {
+            let a = Part {
+                known,
+                expr: a,
+                formula: first,
+            };
+            let b = Part {
+                known,
+                expr: b,
+                formula: second,
+            };
+            Ok(Vec::from_array(heap, [a, b])?)
+        }
+        None => Ok(Vec::new(heap)),
+    }
+}
+
+/// The parts of a part that are formulas; of a predicate it is its body. Fails for want of memory.
+pub fn parts<'t, 'f>(heap: Global, part: Part<'t, 'f>) -> Result<Vec<Part<'t, 'f>>, AllocError>
+    ensures { IfOk result (λ all. map piece_of all.items ≡ parts_of (piece_of part.entry)) }
+{
+    match part.expr {
+        Expr::Unary(sign, a, _) => match sign {
+            Unary::Not => opposite(heap, part.known, a, part.formula),
+            _ => Ok(Vec::new(heap)),
+        },
+        Expr::Binary(sign, a, b, _) => joined(heap, part.known, *sign, a, b, part.formula),
+        Expr::Bound(_, _, names, body, _) => {
+            let inside = Part {
+                known: part.known,
+                expr: body,
+                formula: under(names, part.formula),
+            };
+            Ok(Vec::from_array(heap, [inside])?)
+        }
+        Expr::Call(name, _, _) => called(heap, part.known, name, part.formula),
+        _ => Ok(Vec::new(heap)),
+    }
+}
+
+// What is stated of the text with these items, behind the parts that are there.
+fn push_stated<'t, 'f>(
+    all: &mut Vec<Part<'t, 'f>>,
+    items: &'t [Item],
+    stated: &'f [Stated<'t>],
+) -> Result<(), AllocError>
+    ensures { OnOk result (map piece_of all.new.items ≡ map piece_of all.old.items ++ map (stated_by items.now) stated.now) }
+{
+    let [first, others @ ..] = stated else {
+        return Ok(());
+    };
+    all.push(Part {
+        known: items,
+        expr: first.expr,
+        formula: &first.formula,
+    })?;
+    push_stated(all, items, others)
+}
+
+/// The assumptions of a text, then its claims. Fails for want of memory.
+pub fn statements<'t, 'f>(
+    heap: Global,
+    items: &'t [Item],
+    asked: &'f Asked<'t>,
+) -> Result<Vec<Part<'t, 'f>>, AllocError>
+    ensures { IfOk result (λ all. map piece_of all.items ≡ statements_of items.now asked.now) }
+{
+    let mut all = Vec::new(heap);
+    push_stated(&mut all, items, &asked.assumed)?;
+    push_stated(&mut all, items, &asked.claimed)?;
     Ok(all)
 }

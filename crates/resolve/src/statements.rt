@@ -1,15 +1,14 @@
-// Expressions as formulas: connectives, comparisons, quantifiers, and predicates expanded. A bound name takes the number of names that are bound or declared around it, so that no argument of a predicate is captured.
-ghost use Rattle.std.specs.Prelude.{◌≡◌, ℕ, ◌+◌, ◌<◌, ◌≤◌, true, map, length, List, ◌⊎◌, ◌↔◌, IfOk, IfErr};
-ghost use Rattle.claims.specs.Claims.{has};
+// Expressions as formulas: connectives, quantifiers, and predicates expanded. A bound name takes the number of names that are bound or declared around it, so that no argument of a predicate is captured.
+ghost use Rattle.std.specs.Prelude.{◌≡◌, ◌+◌, map, length, ◌⊎◌, ◌↔◌, IfOk, IfErr};
 ghost use Rattle.formulas.specs.Meaning.{Env, Meaning};
-ghost use Rattle.resolve.specs.Says.{Context, Value, value, place_of, set_of, Same, IsSet, holds, quantified, bind_all, given};
+ghost use Rattle.resolve.specs.Says.{value, holds, quantified, bind_all, given};
 ghost use Rattle.resolve.specs.Scopes.{meant, context, term_sort, signature, Settled, Steady, OverAll};
-ghost use Rattle.resolve.specs.Faults.{Faulty, IsLimit, Among, Connects, class_of, class_of_sort, side, with_names, with_parameters, as_parameters};
+ghost use Rattle.resolve.specs.Faults.{Faulty, IsLimit, Among, class_of_sort, with_names, with_parameters, as_parameters};
 ghost use Rattle.trees.specs.declared.tree.Expr.{Expr};
 ghost use Rattle.resolve.specs.declared.fault.Class.{Class};
 
 use crate::built::{and, every_place, every_set, implies, negation, or, some_place, some_set};
-use crate::fault::{Class, Fault};
+use crate::fault::Fault;
 use crate::scope::{Scope, Term, defined};
 use crate::terms::{Resolver, inner};
 use formulas::formula::{Formula, Group, Place};
@@ -47,131 +46,6 @@ fn over(
 }
 
 impl Resolver {
-    // A set within another.
-    fn within(
-        &mut self,
-        a: &Expr,
-        b: &Expr,
-        scope: &Scope<'_>,
-        calls: u32,
-    ) -> Result<Formula, Fault>
-        ensures says { IfOk result (λ f. (e : Env) → let s = context scope.now e in Meaning f e ↔ ((i : ℕ) → has (set_of (value a.now s)) i ≡ true → has (set_of (value b.now s)) i ≡ true)) }
-        ensures sets { IfOk result (λ f. (e : Env) → IsSet (value a.now (context scope.now e)) × IsSet (value b.now (context scope.now e))) }
-        ensures faults { IfErr result (λ f. IsLimit f ⊎ (Faulty (signature scope.now) Class.Set a.now f ⊎ Faulty (signature scope.now) Class.Set b.now f)) }
-    {
-        let a = self.group(a, scope, calls)?;
-        let b = self.group(b, scope, calls)?;
-        Ok(Formula::Sub(a, b))
-    }
-
-    // A place before another.
-    fn before(
-        &mut self,
-        a: &Expr,
-        b: &Expr,
-        scope: &Scope<'_>,
-        calls: u32,
-    ) -> Result<Formula, Fault>
-        ensures says { IfOk result (λ f. (e : Env) → let s = context scope.now e in Meaning f e ↔ (place_of (value a.now s) < place_of (value b.now s))) }
-        ensures faults { IfErr result (λ f. IsLimit f ⊎ (Faulty (signature scope.now) Class.Place a.now f ⊎ Faulty (signature scope.now) Class.Place b.now f)) }
-    {
-        let a = self.place(a, scope, calls)?;
-        let b = self.place(b, scope, calls)?;
-        Ok(Formula::Less(a, b))
-    }
-
-    // A place in a set.
-    fn belongs(
-        &mut self,
-        a: &Expr,
-        b: &Expr,
-        scope: &Scope<'_>,
-        calls: u32,
-    ) -> Result<Formula, Fault>
-        ensures says { IfOk result (λ f. (e : Env) → let s = context scope.now e in Meaning f e ↔ (has (set_of (value b.now s)) (place_of (value a.now s)) ≡ true)) }
-        ensures faults { IfErr result (λ f. IsLimit f ⊎ (Faulty (signature scope.now) Class.Place a.now f ⊎ Faulty (signature scope.now) Class.Set b.now f)) }
-    {
-        let a = self.place(a, scope, calls)?;
-        let b = self.group(b, scope, calls)?;
-        Ok(Formula::In(a, b))
-    }
-
-    // Two places that are the same, or two sets.
-    fn equal(&mut self, a: &Expr, b: &Expr, scope: &Scope<'_>, calls: u32) -> Result<Formula, Fault>
-        ensures says { IfOk result (λ f. (e : Env) → let s = context scope.now e in Meaning f e ↔ Same (value a.now s) (value b.now s)) }
-        ensures faults { IfErr result (λ f. let sides = side (class_of (signature scope.now) a.now) in IsLimit f ⊎ (Faulty (signature scope.now) sides a.now f ⊎ Faulty (signature scope.now) sides b.now f)) }
-    {
-        match self.term(Class::Place, a, scope, calls)? {
-            Term::Place(first) => {
-                let second = self.place(b, scope, calls)?;
-                Ok(Formula::Same(first, second))
-            }
-            Term::Set(_) => {
-                let first = self.within(a, b, scope, calls)?;
-                let second = self.within(b, a, scope, calls)?;
-                Ok(and(self.heap, first, second)?)
-            }
-        }
-    }
-
-    // A set without places.
-    fn emptied(&mut self, a: &Expr, scope: &Scope<'_>, calls: u32) -> Result<Formula, Fault>
-        ensures says { IfOk result (λ f. (e : Env) → Meaning f e ↔ ((i : ℕ) → has (set_of (value a.now (context scope.now e))) i ≡ true → ⊥)) }
-        ensures faults { IfErr result (λ f. IsLimit f ⊎ Faulty (signature scope.now) Class.Set a.now f) }
-    {
-        let set = self.group(a, scope, calls)?;
-        Ok(Formula::Sub(set, Group::Empty))
-    }
-
-    // What is at fault where a formula is wanted and a term stands: the term, or else that it is one.
-    fn no_formula(&mut self, expr: &Expr, scope: &Scope<'_>, calls: u32) -> Fault
-        ensures { IsLimit result ⊎ ((class_of (signature scope.now) expr.now ≡ Some Class.Formula → ⊥) → Faulty (signature scope.now) Class.Formula expr.now result) }
-    {
-        match self.term(Class::Formula, expr, scope, calls) {
-            Ok(Term::Place(_)) => Fault::Class(Class::Formula, Class::Place, expr.span()),
-            Ok(Term::Set(_)) => Fault::Class(Class::Formula, Class::Set, expr.span()),
-            Err(fault) => fault,
-        }
-    }
-
-    // What is said of terms.
-    fn compared(&mut self, expr: &Expr, scope: &Scope<'_>, calls: u32) -> Result<Formula, Fault>
-        ensures says { IfOk result (λ f. (e : Env) → Meaning f e ↔ holds expr.now (context scope.now e)) }
-        ensures faults { IfErr result (λ f. IsLimit f ⊎ ((Connects expr.now → ⊥) → Faulty (signature scope.now) Class.Formula expr.now f)) }
-    {
-        match expr {
-            Expr::Unary(sign, a, _) => match sign {
-                Unary::IsEmpty => self.emptied(a, scope, calls),
-                _ => Err(self.no_formula(expr, scope, calls)),
-            },
-            Expr::Binary(sign, a, b, _) => match sign {
-                Binary::In => self.belongs(a, b, scope, calls),
-                Binary::NotIn => {
-                    let formula = self.belongs(a, b, scope, calls)?;
-                    Ok(negation(self.heap, formula)?)
-                }
-                Binary::Sub => self.within(a, b, scope, calls),
-                Binary::Equal => self.equal(a, b, scope, calls),
-                Binary::Differs => {
-                    let formula = self.equal(a, b, scope, calls)?;
-                    Ok(negation(self.heap, formula)?)
-                }
-                Binary::Less => self.before(a, b, scope, calls),
-                Binary::Greater => self.before(b, a, scope, calls),
-                Binary::AtMost => {
-                    let formula = self.before(b, a, scope, calls)?;
-                    Ok(negation(self.heap, formula)?)
-                }
-                Binary::AtLeast => {
-                    let formula = self.before(a, b, scope, calls)?;
-                    Ok(negation(self.heap, formula)?)
-                }
-                _ => Err(self.no_formula(expr, scope, calls)),
-            },
-            _ => Err(self.no_formula(expr, scope, calls)),
-        }
-    }
-
     /// What an expression says, as a formula over numbers; names that are bound take the numbers from `level` on.
     ///
     /// # Errors

@@ -58,7 +58,7 @@ pub first_row : (items : List Item) (F : Text → Type 0) (s : List ℕ) (n : �
 first_row items F s n w p found =
     let l = names_of items in
     let a = p.formula in
-    let told = found l a p.claimed in
+    let told = (found l a p.claimed).1 in
     let here = (row_of items F a w.items p.means).0 told.0 in
     let long = numbered_length 0 (declared items) in
     record {
@@ -77,7 +77,7 @@ always items s t n u p q f g =
     let row = first_row items Holding s n u p f in (
       λ e a. elim (decided (names_of items) p.formula s p.claimed e) [
         | inl m ↦ ((p.means e).0 m).1
-        | inr nay ↦ absurd (g (names_of items) q.formula q.claimed e ((q.means e).1 (a, λ c. nay ((p.means e).1 (a, c)))))
+        | inr nay ↦ absurd ((g (names_of items) q.formula q.claimed).1 e ((q.means e).1 (a, λ c. nay ((p.means e).1 (a, c)))))
       ],
       shown u.items,
       row.holds.0,
@@ -86,15 +86,15 @@ always items s t n u p q f g =
 pub unmet : (items : List Item) (s t : List ℕ) (n : ℕ) → Puts (names_of items) (HoldsOf items) s → Puts (names_of items) (FailsOf items) t →
     FoundOf s n Nothing → FoundOf t n Nothing → Answers items Unmet
 unmet items s t n p q f g = λ e a. elim (decided (names_of items) p.formula s p.claimed e) [
-  | inl m ↦ f (names_of items) p.formula p.claimed e m
-  | inr nay ↦ g (names_of items) q.formula q.claimed e ((q.means e).1 (a, λ c. nay ((p.means e).1 (a, c))))
+  | inl m ↦ (f (names_of items) p.formula p.claimed).1 e m
+  | inr nay ↦ (g (names_of items) q.formula q.claimed).1 e ((q.means e).1 (a, λ c. nay ((p.means e).1 (a, c))))
 ]
 
 pub never : (items : List Item) (s t : List ℕ) (n : ℕ) (v : _) → Puts (names_of items) (HoldsOf items) s → Puts (names_of items) (FailsOf items) t →
     FoundOf s n Nothing → FoundOf t n (First v) → Answers items Never
 never items s t n v p q f g =
     let row = first_row items Failing t n v q g in
-    (λ e a c. f (names_of items) p.formula p.claimed e ((p.means e).1 (a, c)), shown v.items, row.holds.0)
+    (λ e a c. (f (names_of items) p.formula p.claimed).1 e ((p.means e).1 (a, c)), shown v.items, row.holds.0)
 
 pub both : (items : List Item) (s t : List ℕ) (n : ℕ) (u v : _) → Puts (names_of items) (HoldsOf items) s → Puts (names_of items) (FailsOf items) t →
     FoundOf s n (First u) → FoundOf t n (First v) → Answers items (Both u v)

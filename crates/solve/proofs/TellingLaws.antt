@@ -16,9 +16,12 @@ columns_wider j k (c ∷ w) le h = let p : 2 ^ j ≤ 2 ^ k = pow_mono le in (ome
 
 pub tells : (s : List ℕ) (n : ℕ) (found : Found) → Finds s n found → (l : List Name) (a : Formula) → Claimed l a s → Tells l a n found
 tells s n (First w) f l a c =
-    let first = (f (sets_needed l a) (whole l a) c.claim).1 in
-    ((c.says w.items).0 first.holds, λ u columns less h. first.first u columns less ((c.says u).1 h))
+    let found = f (sets_needed l a) (whole l a) c.claim in
+    (found.0, ((c.says w.items).0 found.1.holds, λ u columns less h. found.1.first u columns less ((c.says u).1 h)))
 tells s n Nothing f l a c =
-    λ e m. let word = c.chosen e in
-    (f (sets_needed l a) (whole l a) c.claim).1 word.0 (columns_wider (length l) (sets_needed l a) word.0 (omega arith) word.1.columns) (word.2.1 m)
+    let found = f (sets_needed l a) (whole l a) c.claim in (
+      found.0,
+      λ e m. let word = c.chosen e in
+          found.1 word.0 (columns_wider (length l) (sets_needed l a) word.0 (omega arith) word.1.columns) (word.2.1 m),
+    )
 tells s n TooLarge f l a c = f (sets_needed l a) (whole l a) c.claim

@@ -6,9 +6,7 @@ use Rattle.claims.specs.Claims.{Only}
 use Rattle.claims.specs.Sizes.{Fits}
 use Rattle.formulas.specs.Sets.{lowest}
 use Rattle.formulas.specs.Meaning.{Env}
-use Rattle.formulas.specs.declared.name.Name.{Name as Numbered}
-use Rattle.formulas.specs.declared.formula.Formula.{Formula}
-use Rattle.formula_claims.specs.Claimed.{Claimed, whole, sets_needed}
+use Rattle.formula_claims.specs.Claimed.{whole, sets_needed}
 use Rattle.trees.specs.declared.tree.Name.{Name}
 use Rattle.trees.specs.declared.tree.Sort.{Sort}
 use Rattle.trees.specs.declared.tree.Sort.TheVariants.{Place, Set}
@@ -42,10 +40,6 @@ pub record FirstRow (l : List (Name × Sort)) (P : Env → Type 0) (w : Word) : 
 -- more than n classes have to be told apart at the claim of P
 abbrev pub Large : List Item → ℕ → (Env → Type 0) → Type 0
 Large items n P = (bytes : List ℕ) × (p : Puts (names_of items) P bytes) × (Fits (sets_needed (names_of items) p.formula) n (whole (names_of items) p.formula) → ⊥)
-
--- more than n classes have to be told apart at a formula's claim, about some list of its names
-abbrev pub IsLarge : ℕ → Formula → Type 0
-IsLarge n a = (l : List Numbered) × (bytes : List ℕ) × Claimed l a bytes × (Fits (sets_needed l a) n (whole l a) → ⊥)
 
 -- an answer is true of the text
 abbrev pub Answers : List Item → Answer → Type 0

@@ -1,7 +1,7 @@
 use Rattle.std.proofs.Common.{◌≡◌, inl, inr, List, suc, ◌-◌, ◌++◌, ◌∷◌, map, length, take, drop, ◌∙◌, sym, refl, ap, subst, arith, rules, add-one, OnOk}
-use Rattle.resolve.specs.Says.{holds, bind, given, declare, count, text_from}
-use Rattle.resolve.specs.Scopes.{context, signature, Settled, Steady}
-use Rattle.resolve.specs.Asks.{declared, AsksMore}
+use Rattle.resolve.specs.Says.{bind, given, declare, count}
+use Rattle.resolve.specs.Scopes.{meant, context, signature, Settled, Steady}
+use Rattle.resolve.specs.Asks.{declared, Written, AsksMore}
 use Rattle.resolve.proofs.Iff.{on_ok}
 use Rattle.resolve.proofs.ScopesLaws.{steady_more}
 use Rattle.resolve.proofs.ValuesLaws.{head_rest}
@@ -9,8 +9,11 @@ use Rattle.trees.specs.declared.tree.Name.{Name}
 use Rattle.resolve.specs.Faults.{Faulty, FaultyText}
 use Rattle.resolve.specs.declared.fault.Class.TheVariants.{Formula}
 use Rattle.resolve.proofs.TextFaultsLaws.{text_tail, text_passed, InNames, names_more}
-use Rattle.resolve.proofs.AsksLaws.{assumed_more, claimed_more, name_more, rest_same}
+use Rattle.resolve.proofs.AsksLaws.{nothing_more, assumed_more, claimed_more, name_more, rest_same, written_same}
 use Rattle.resolve.proofs.terms.Resolver.+asking.Goals as goal
+
+pub items-returns-in_default-clause-says : goal.items-returns-in_default-clause-says
+items-returns-in_default-clause-says t c = nothing_more c.args.asked.now c.args.items.now c.args.level (λ e. context c.args.scope.now e) c.in_default.len_below
 
 pub items-returns-in-Free-clause-says : goal.items-returns-in-Free-clause-says
 items-returns-in-Free-clause-says t c =
@@ -18,7 +21,7 @@ items-returns-in-Free-clause-says t c =
     let rest = take (length xs - 1) (drop 1 xs) in
     let parts = head_rest xs c.first-item.result (omega (arith, c.in-len1-up.len_at_least)) c.first-item.is ∙ ap (λ z. z ∷ rest) c.in-Free.is in
     rw parts (subst (λ l. OnOk c.names.result (AsksMore c.args.asked.now c.names.new.asked (map (λ x. (x, c.in-Free.sort)) l ++ declared rest)
-    (λ e. text_from rest (count c.args.level l) e (declare c.in-Free.sort l c.args.level e (context c.args.scope.now e))))) c.deref.ensures.value c.names.ensures.says)
+    (λ u v. Written rest (count c.args.level l) (λ e. declare c.in-Free.sort l c.args.level e (context c.args.scope.now e)) u v))) c.deref.ensures.value c.names.ensures.says)
 
 pub items-returns-in_ok-push-in-Assert-clause-says : goal.items-returns-in_ok-push-in-Assert-clause-says
 items-returns-in_ok-push-in-Assert-clause-says t c =
@@ -26,8 +29,8 @@ items-returns-in_ok-push-in-Assert-clause-says t c =
     let rest = take (length xs - 1) (drop 1 xs) in
     let parts = head_rest xs c.first-item.result (omega (arith, c.in-len1-up.len_at_least)) c.first-item.is ∙ ap (λ z. z ∷ rest) c.in-Assert.is in
     rw parts (on_ok c.items-in-Assert.result _ _
-    (λ m. assumed_more c.args.asked.now _ c.items-in-Assert.new.asked (declared rest) (λ e. text_from rest c.args.level e (context c.args.scope.now e)) _
-    (λ e. holds c.in-Assert.expr (context c.args.scope.now e)) refl c.in_ok-push-in-Assert.ensures.items refl c.in_ok-formula-in-Assert.ensures.says m) c.items-in-Assert.ensures.says)
+    (λ m. assumed_more c.args.asked.now _ c.items-in-Assert.new.asked (declared rest) rest c.args.level (λ e. context c.args.scope.now e) _
+    c.in-Assert.expr refl c.in_ok-push-in-Assert.ensures.items refl (refl, c.in_ok-formula-in-Assert.ensures.says) m) c.items-in-Assert.ensures.says)
 
 pub items-returns-in_ok-push-in-Formula-clause-says : goal.items-returns-in_ok-push-in-Formula-clause-says
 items-returns-in_ok-push-in-Formula-clause-says t c =
@@ -35,8 +38,8 @@ items-returns-in_ok-push-in-Formula-clause-says t c =
     let rest = take (length xs - 1) (drop 1 xs) in
     let parts = head_rest xs c.first-item.result (omega (arith, c.in-len1-up.len_at_least)) c.first-item.is ∙ ap (λ z. z ∷ rest) c.in-Formula.is in
     rw parts (on_ok c.items-in-Formula.result _ _
-    (λ m. claimed_more c.args.asked.now _ c.items-in-Formula.new.asked (declared rest) (λ e. text_from rest c.args.level e (context c.args.scope.now e)) _
-    (λ e. holds c.in-Formula.expr (context c.args.scope.now e)) refl c.in_ok-push-in-Formula.ensures.items refl c.in_ok-formula-in-Formula.ensures.says m) c.items-in-Formula.ensures.says)
+    (λ m. claimed_more c.args.asked.now _ c.items-in-Formula.new.asked (declared rest) rest c.args.level (λ e. context c.args.scope.now e) _
+    c.in-Formula.expr refl c.in_ok-push-in-Formula.ensures.items refl (refl, c.in_ok-formula-in-Formula.ensures.says) m) c.items-in-Formula.ensures.says)
 
 pub names-names-requires : goal.names-names-requires
 names-names-requires t c =
@@ -55,11 +58,14 @@ names-returns-clause-says t c =
     let e : c.in-Some.next ≡ suc n = omega (arith, c.in-Some.ensures) in
     let parts = head_rest xs x (omega (arith, c.in-len1-up.len_at_least)) c.name-item.is in
     rw parts (on_ok c.names.result _ _
-    (λ m. name_more c.args.asked.now _ c.names.new.asked (map (λ y. (y, sort)) ys ++ declared items) (λ f. text_from items (count (suc n) ys) f (declare sort ys (suc n) f (bind x (given sort n f) (context c.args.scope.now f)))) _
+    (λ m. name_more c.args.asked.now _ c.names.new.asked (map (λ y. (y, sort)) ys ++ declared items) (λ l k. Written items (count (suc n) ys) (λ f. declare sort ys (suc n) f (bind x (given sort n f) (context c.args.scope.now f))) l k) _
     c.in_ok-push.ensures.items refl refl
-    (rest_same _ c.names.new.asked _ _ _ (λ f.
-    ap (λ v. text_from items (count c.in-Some.next ys) f (declare sort ys c.in-Some.next f (bind x v (context c.args.scope.now f)))) (c.numbered-term.ensures.means f)
-    ∙ ap (λ k. text_from items (count k ys) f (declare sort ys k f (bind x (given sort n f) (context c.args.scope.now f)))) e) m)) c.names.ensures.says)
+    (rest_same _ c.names.new.asked _ _ _ (written_same items (count c.in-Some.next ys) (count (suc n) ys)
+    (λ f. declare sort ys c.in-Some.next f (bind x (meant c.numbered-term.result f) (context c.args.scope.now f)))
+    (λ f. declare sort ys (suc n) f (bind x (given sort n f) (context c.args.scope.now f)))
+    (ap (λ k. count k ys) e) (λ f.
+    ap (λ v. declare sort ys c.in-Some.next f (bind x v (context c.args.scope.now f))) (c.numbered-term.ensures.means f)
+    ∙ ap (λ k. declare sort ys k f (bind x (given sort n f) (context c.args.scope.now f))) e)) m)) c.names.ensures.says)
 
 pub items-returns-in-Free-clause-faults : goal.items-returns-in-Free-clause-faults
 items-returns-in-Free-clause-faults t c =

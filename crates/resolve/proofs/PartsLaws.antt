@@ -1,0 +1,101 @@
+-- Parts are smaller than what they are parts of.
+use Rattle.std.proofs.Common.{◌≡◌, ℕ, zero, suc, ◌+◌, ◌<◌, ◌≤◌, ◌⊎◌, inl, inr, List, [], ◌∷◌, ◌++◌, map, take, position, slice_get, Option, Some, None, string_bytes, refl, ap, arith}
+use Rattle.formulas.specs.declared.formula.Formula.{Formula}
+use Rattle.trees.specs.declared.tree.Unary.TheVariants.{Not, Min, Max, IsEmpty}
+use Rattle.trees.specs.declared.tree.Binary.{Binary}
+use Rattle.trees.specs.declared.tree.Expr.{Expr}
+use Rattle.trees.specs.declared.tree.Expr.TheVariants.{True, False, Empty, Number, Named, Listed', Unary', Binary', Bound', Call'}
+use Rattle.trees.specs.declared.tree.Item.{Item}
+use Rattle.trees.specs.declared.tree.Item.TheVariants.{Free, Predicate as Defined, Assert, Formula as Claimed}
+use Rattle.resolve.specs.Faults.{Among}
+use Rattle.resolve.specs.Parts.{Piece, denied, halves, under, defines, one, two, body_of, called, parts_of, parts}
+
+-- the signs of an expression that may be formulas
+abbrev pub size : Expr → ℕ
+size (Unary' sign _ a span) = suc (size a)
+size (Binary' sign _ a _ b span) = suc (size a + size b)
+size (Bound' q sort names _ a span) = suc (size a)
+size _ = 1
+
+-- the sizes of the bodies of all predicates
+abbrev pub bodies : List Item → ℕ
+bodies [] = 0
+bodies (Free sort names ∷ items) = bodies items
+bodies (Defined p ∷ items) = size p.body + bodies items
+bodies (Assert a ∷ items) = bodies items
+bodies (Claimed a ∷ items) = bodies items
+
+abbrev pub weight : Piece → ℕ
+weight p = size p.expr + bodies p.known
+
+some_size : (a : Expr) → 1 ≤ size a
+some_size (True span) = omega arith
+some_size (False span) = omega arith
+some_size (Empty span) = omega arith
+some_size (Number n span) = omega arith
+some_size (Named x) = omega arith
+some_size (Listed' shape all span) = omega arith
+some_size (Unary' sign _ a span) = omega arith
+some_size (Binary' sign _ a _ b span) = omega arith
+some_size (Bound' q sort names _ a span) = omega arith
+some_size (Call' x shape all span) = omega arith
+
+bodies_behind : (item : Item) (items : List Item) → bodies (item ∷ items) ≡ bodies (item ∷ []) + bodies items
+bodies_behind (Free sort names) items = omega arith
+bodies_behind (Defined p) items = omega arith
+bodies_behind (Assert a) items = omega arith
+bodies_behind (Claimed a) items = omega arith
+
+-- one item more in front
+body_behind : (item : Item) (before : List Item) (o : Option Item) (f : Formula) (q : Piece) (m : ℕ) →
+    ((r : Piece) → Among r (body_of before o f) → weight r ≤ m) → Among q (body_of (item ∷ before) o f) → weight q ≤ bodies (item ∷ []) + m
+body_behind item before None f q m g h = absurd h
+body_behind item before (Some (Free sort names)) f q m g h = absurd h
+body_behind item before (Some (Assert a)) f q m g h = absurd h
+body_behind item before (Some (Claimed a)) f q m g h = absurd h
+body_behind item before (Some (Defined p)) f q m g h =
+    let w = g (record { known = before; expr = p.body; formula = f }) (inl refl) in
+    let b = bodies_behind item before in
+    elim h [ inl e ↦ omega (arith, ap weight e, w, b) | inr n ↦ absurd n ]
+
+-- the body of a predicate, and those of the predicates before it, are among the bodies
+body_smaller : (known : List Item) (i : ℕ) (f : Formula) (q : Piece) → Among q (body_of (take i known) (slice_get known i) f) → weight q ≤ bodies known
+body_smaller [] i f q h = absurd h
+body_smaller (Free sort names ∷ items) zero f q h = absurd h
+body_smaller (Assert a ∷ items) zero f q h = absurd h
+body_smaller (Claimed a ∷ items) zero f q h = absurd h
+body_smaller (Defined p ∷ items) zero f q h = elim h [ inl e ↦ omega (arith, ap weight e) | inr n ↦ absurd n ]
+body_smaller (item ∷ items) (suc i) f q h =
+    let w = body_behind item (take i items) (slice_get items i) f q (bodies items) (λ r k. body_smaller items i f r k) h in
+    let b = bodies_behind item items in
+    omega (arith, w, b)
+
+called_smaller : (known : List Item) (i : Option ℕ) (f : Formula) (q : Piece) → Among q (called known i f) → weight q ≤ bodies known
+called_smaller known None f q h = absurd h
+called_smaller known (Some i) f q h = body_smaller known i f q h
+
+one_smaller : (known : List Item) (a : Expr) (f : Option Formula) (q : Piece) → Among q (one known a f) → weight q ≤ size a + bodies known
+one_smaller known a None q h = absurd h
+one_smaller known a (Some f) q h = elim h [ inl e ↦ omega (arith, ap weight e) | inr n ↦ absurd n ]
+
+two_smaller : (known : List Item) (a b : Expr) (h : Option (Formula × Formula)) (q : Piece) → Among q (two known a b h) → weight q ≤ size a + size b + bodies known
+two_smaller known a b None q h = absurd h
+two_smaller known a b (Some f) q h = elim h [ inl e ↦ omega (arith, ap weight e) | inr n ↦ elim n [ inl e ↦ omega (arith, ap weight e) | inr m ↦ absurd m ] ]
+
+of_smaller : (known : List Item) (a : Expr) (f : Formula) (q : Piece) → Among q (parts_of known a f) → weight q < size a + bodies known
+of_smaller known (Unary' Not _ a span) f q h = let s = one_smaller known a (denied f) q h in omega arith
+of_smaller known (Unary' Min _ a span) f q h = absurd h
+of_smaller known (Unary' Max _ a span) f q h = absurd h
+of_smaller known (Unary' IsEmpty _ a span) f q h = absurd h
+of_smaller known (Binary' sign _ a _ b span) f q h = let s = two_smaller known a b (halves sign f) q h in omega arith
+of_smaller known (Bound' r sort names _ a span) f q h = elim h [ inl e ↦ omega (arith, ap weight e) | inr n ↦ absurd n ]
+of_smaller known (Call' x shape all span) f q h = let s = called_smaller known (position (defines (string_bytes x.text)) known) f q h in omega arith
+of_smaller known (True span) f q h = absurd h
+of_smaller known (False span) f q h = absurd h
+of_smaller known (Empty span) f q h = absurd h
+of_smaller known (Number n span) f q h = absurd h
+of_smaller known (Named x) f q h = absurd h
+of_smaller known (Listed' shape all span) f q h = absurd h
+
+pub parts_smaller : (p q : Piece) → Among q (parts p) → weight q < weight p
+parts_smaller p q h = of_smaller p.known p.expr p.formula q h

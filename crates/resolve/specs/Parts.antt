@@ -1,0 +1,97 @@
+-- The parts of a formula, as they stand in a text and as formulas over numbers.
+use Rattle.std.specs.Prelude.{ℕ, Bool, false, List, [], ◌∷◌, ◌++◌, map, take, position, slice_get, Option, Some, None, string_bytes}
+use Rattle.std.specs.Str.{bytes_eq}
+use Rattle.formulas.specs.declared.formula.Formula.{Formula}
+use Rattle.formulas.specs.declared.formula.Formula.TheVariants.{Not', And', Or', Implies', Some1', All1', Some2', All2'}
+use Rattle.trees.specs.declared.tree.Name.{Name}
+use Rattle.trees.specs.declared.tree.Unary.TheVariants.{Not}
+use Rattle.trees.specs.declared.tree.Binary.{Binary}
+use Rattle.trees.specs.declared.tree.Binary.TheVariants.{Iff, Implies, Or, And}
+use Rattle.trees.specs.declared.tree.Expr.{Expr}
+use Rattle.trees.specs.declared.tree.Expr.TheVariants.{Unary', Binary', Bound', Call'}
+use Rattle.trees.specs.declared.tree.Item.{Item}
+use Rattle.trees.specs.declared.tree.Item.TheVariants.{Predicate as Defined}
+use Rattle.resolve.specs.Faults.{Among}
+use Rattle.resolve.specs.declared.asked.Stated.{Stated}
+use Rattle.resolve.specs.declared.asked.Asked.{Asked}
+use Rattle.resolve.specs.declared.narrow.Part.{Part}
+
+-- what stands in a text, that as a formula, and the items whose predicates are known there
+pub record Piece : Type 0 where
+  pub known : List Item
+  pub expr : Expr
+  pub formula : Formula
+
+abbrev pub piece_of : Part → Piece
+piece_of p = record { known = p.known.now; expr = p.expr.now; formula = p.formula.now }
+
+-- the formula that is denied
+abbrev pub denied : Formula → Option Formula
+denied (Not' _ f) = Some f
+denied _ = None
+
+abbrev pub implied : Formula → Option (Formula × Formula)
+implied (Implies' _ f _ g) = Some (f, g)
+implied _ = None
+
+-- the two formulas that a connective joins; those of *exactly if* stand in each of two implications, of which this is the first
+abbrev pub halves : Binary → Formula → Option (Formula × Formula)
+halves And (And' _ f _ g) = Some (f, g)
+halves Or (Or' _ f _ g) = Some (f, g)
+halves Implies (Implies' _ f _ g) = Some (f, g)
+halves Iff (And' _ f _ g) = implied f
+halves _ _ = None
+
+-- what quantifiers over the names say something of
+abbrev pub under : List Name → Formula → Formula
+under [] f = f
+under (x ∷ xs) (Some1' _ _ f) = under xs f
+under (x ∷ xs) (All1' _ _ f) = under xs f
+under (x ∷ xs) (Some2' _ _ f) = under xs f
+under (x ∷ xs) (All2' _ _ f) = under xs f
+under (x ∷ xs) f = f
+
+-- whether an item defines the predicate of this name
+abbrev pub defines : List ℕ → Item → Bool
+defines y (Defined p) = bytes_eq (string_bytes p.name.text) y
+defines y _ = false
+
+abbrev pub one : List Item → Expr → Option Formula → List Piece
+one known a None = []
+one known a (Some f) = record { known = known; expr = a; formula = f } ∷ []
+
+abbrev pub two : List Item → Expr → Expr → Option (Formula × Formula) → List Piece
+two known a b None = []
+two known a b (Some h) = record { known = known; expr = a; formula = h.0 } ∷ record { known = known; expr = b; formula = h.1 } ∷ []
+
+-- the body of the predicate that an item defines
+abbrev pub body_of : List Item → Option Item → Formula → List Piece
+body_of known (Some (Defined p)) f = record { known = known; expr = p.body; formula = f } ∷ []
+body_of known _ f = []
+
+abbrev pub called : List Item → Option ℕ → Formula → List Piece
+called known None f = []
+called known (Some i) f = body_of (take i known) (slice_get known i) f
+
+-- the parts of an expression that are formulas: what a sign joins, what is said of bound names, and of a predicate its body, which knows the predicates before it
+abbrev pub parts_of : List Item → Expr → Formula → List Piece
+parts_of known (Unary' Not _ a span) f = one known a (denied f)
+parts_of known (Binary' sign _ a _ b span) f = two known a b (halves sign f)
+parts_of known (Bound' q sort names _ a span) f = record { known = known; expr = a; formula = under names.items f } ∷ []
+parts_of known (Call' x shape all span) f = called known (position (defines (string_bytes x.text)) known) f
+parts_of known _ f = []
+
+abbrev pub parts : Piece → List Piece
+parts p = parts_of p.known p.expr p.formula
+
+abbrev pub stated_by : List Item → Stated → Piece
+stated_by items s = record { known = items; expr = s.expr.now; formula = s.formula }
+
+-- the assumptions of a text, then its claims
+abbrev pub statements : List Item → Asked → List Piece
+statements items asked = map (stated_by items) asked.assumed.items ++ map (stated_by items) asked.claimed.items
+
+-- a part of a piece, or of a part of it, and so on, or the piece itself
+pub data Within : Piece → Piece → Type 0 where
+  itself : {p : Piece} → Within p p
+  inside : {p q r : Piece} → Within p q → Among r (parts q) → Within p r

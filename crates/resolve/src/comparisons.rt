@@ -1,0 +1,145 @@
+// What is said of terms, as a formula: places and sets compared.
+ghost use Rattle.std.specs.Prelude.{◌≡◌, ℕ, ◌<◌, true, ◌⊎◌, ◌↔◌, IfOk, IfErr};
+ghost use Rattle.claims.specs.Claims.{has};
+ghost use Rattle.formulas.specs.Meaning.{Env, Meaning};
+ghost use Rattle.resolve.specs.Says.{value, place_of, set_of, Same, IsSet, holds};
+ghost use Rattle.resolve.specs.Scopes.{context, signature};
+ghost use Rattle.resolve.specs.Faults.{Faulty, IsLimit, Connects, class_of, side};
+ghost use Rattle.resolve.specs.declared.fault.Class.{Class};
+
+use crate::built::{and, negation};
+use crate::fault::{Class, Fault};
+use crate::scope::{Scope, Term};
+use crate::terms::Resolver;
+use formulas::formula::{Formula, Group};
+use trees::tree::{Binary, Expr, Unary};
+
+impl Resolver {
+    // A set within another.
+    fn within(
+        &mut self,
+        a: &Expr,
+        b: &Expr,
+        scope: &Scope<'_>,
+        calls: u32,
+    ) -> Result<Formula, Fault>
+        ensures says { IfOk result (λ f. (e : Env) → let s = context scope.now e in Meaning f e ↔ ((i : ℕ) → has (set_of (value a.now s)) i ≡ true → has (set_of (value b.now s)) i ≡ true)) }
+        ensures sets { IfOk result (λ f. (e : Env) → IsSet (value a.now (context scope.now e)) × IsSet (value b.now (context scope.now e))) }
+        ensures faults { IfErr result (λ f. IsLimit f ⊎ (Faulty (signature scope.now) Class.Set a.now f ⊎ Faulty (signature scope.now) Class.Set b.now f)) }
+    {
+        let a = self.group(a, scope, calls)?;
+        let b = self.group(b, scope, calls)?;
+        Ok(Formula::Sub(a, b))
+    }
+
+    // A place before another.
+    fn before(
+        &mut self,
+        a: &Expr,
+        b: &Expr,
+        scope: &Scope<'_>,
+        calls: u32,
+    ) -> Result<Formula, Fault>
+        ensures says { IfOk result (λ f. (e : Env) → let s = context scope.now e in Meaning f e ↔ (place_of (value a.now s) < place_of (value b.now s))) }
+        ensures faults { IfErr result (λ f. IsLimit f ⊎ (Faulty (signature scope.now) Class.Place a.now f ⊎ Faulty (signature scope.now) Class.Place b.now f)) }
+    {
+        let a = self.place(a, scope, calls)?;
+        let b = self.place(b, scope, calls)?;
+        Ok(Formula::Less(a, b))
+    }
+
+    // A place in a set.
+    fn belongs(
+        &mut self,
+        a: &Expr,
+        b: &Expr,
+        scope: &Scope<'_>,
+        calls: u32,
+    ) -> Result<Formula, Fault>
+        ensures says { IfOk result (λ f. (e : Env) → let s = context scope.now e in Meaning f e ↔ (has (set_of (value b.now s)) (place_of (value a.now s)) ≡ true)) }
+        ensures faults { IfErr result (λ f. IsLimit f ⊎ (Faulty (signature scope.now) Class.Place a.now f ⊎ Faulty (signature scope.now) Class.Set b.now f)) }
+    {
+        let a = self.place(a, scope, calls)?;
+        let b = self.group(b, scope, calls)?;
+        Ok(Formula::In(a, b))
+    }
+
+    // Two places that are the same, or two sets.
+    fn equal(&mut self, a: &Expr, b: &Expr, scope: &Scope<'_>, calls: u32) -> Result<Formula, Fault>
+        ensures says { IfOk result (λ f. (e : Env) → let s = context scope.now e in Meaning f e ↔ Same (value a.now s) (value b.now s)) }
+        ensures faults { IfErr result (λ f. let sides = side (class_of (signature scope.now) a.now) in IsLimit f ⊎ (Faulty (signature scope.now) sides a.now f ⊎ Faulty (signature scope.now) sides b.now f)) }
+    {
+        match self.term(Class::Place, a, scope, calls)? {
+            Term::Place(first) => {
+                let second = self.place(b, scope, calls)?;
+                Ok(Formula::Same(first, second))
+            }
+            Term::Set(_) => {
+                let first = self.within(a, b, scope, calls)?;
+                let second = self.within(b, a, scope, calls)?;
+                Ok(and(self.heap, first, second)?)
+            }
+        }
+    }
+
+    // A set without places.
+    fn emptied(&mut self, a: &Expr, scope: &Scope<'_>, calls: u32) -> Result<Formula, Fault>
+        ensures says { IfOk result (λ f. (e : Env) → Meaning f e ↔ ((i : ℕ) → has (set_of (value a.now (context scope.now e))) i ≡ true → ⊥)) }
+        ensures faults { IfErr result (λ f. IsLimit f ⊎ Faulty (signature scope.now) Class.Set a.now f) }
+    {
+        let set = self.group(a, scope, calls)?;
+        Ok(Formula::Sub(set, Group::Empty))
+    }
+
+    // What is at fault where a formula is wanted and a term stands: the term, or else that it is one.
+    fn no_formula(&mut self, expr: &Expr, scope: &Scope<'_>, calls: u32) -> Fault
+        ensures { IsLimit result ⊎ ((class_of (signature scope.now) expr.now ≡ Some Class.Formula → ⊥) → Faulty (signature scope.now) Class.Formula expr.now result) }
+    {
+        match self.term(Class::Formula, expr, scope, calls) {
+            Ok(Term::Place(_)) => Fault::Class(Class::Formula, Class::Place, expr.span()),
+            Ok(Term::Set(_)) => Fault::Class(Class::Formula, Class::Set, expr.span()),
+            Err(fault) => fault,
+        }
+    }
+
+    /// What an expression says of terms. Of any other it tells what is wrong with it as such.
+    ///
+    /// # Errors
+    /// A limit; or, unless the expression is made of formulas, a fault that it has where a formula is wanted.
+    pub fn compared(&mut self, expr: &Expr, scope: &Scope<'_>, calls: u32) -> Result<Formula, Fault>
+        ensures says { IfOk result (λ f. (e : Env) → Meaning f e ↔ holds expr.now (context scope.now e)) }
+        ensures faults { IfErr result (λ f. IsLimit f ⊎ ((Connects expr.now → ⊥) → Faulty (signature scope.now) Class.Formula expr.now f)) }
+    {
+        match expr {
+            Expr::Unary(sign, a, _) => match sign {
+                Unary::IsEmpty => self.emptied(a, scope, calls),
+                _ => Err(self.no_formula(expr, scope, calls)),
+            },
+            Expr::Binary(sign, a, b, _) => match sign {
+                Binary::In => self.belongs(a, b, scope, calls),
+                Binary::NotIn => {
+                    let formula = self.belongs(a, b, scope, calls)?;
+                    Ok(negation(self.heap, formula)?)
+                }
+                Binary::Sub => self.within(a, b, scope, calls),
+                Binary::Equal => self.equal(a, b, scope, calls),
+                Binary::Differs => {
+                    let formula = self.equal(a, b, scope, calls)?;
+                    Ok(negation(self.heap, formula)?)
+                }
+                Binary::Less => self.before(a, b, scope, calls),
+                Binary::Greater => self.before(b, a, scope, calls),
+                Binary::AtMost => {
+                    let formula = self.before(b, a, scope, calls)?;
+                    Ok(negation(self.heap, formula)?)
+                }
+                Binary::AtLeast => {
+                    let formula = self.before(a, b, scope, calls)?;
+                    Ok(negation(self.heap, formula)?)
+                }
+                _ => Err(self.no_formula(expr, scope, calls)),
+            },
+            _ => Err(self.no_formula(expr, scope, calls)),
+        }
+    }
+}
