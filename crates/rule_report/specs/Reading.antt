@@ -7,7 +7,9 @@ use Rattle.rule_file.specs.Written.{file_tokens}
 use Rattle.rule_file.specs.declared.tree.Line.{Line}
 use Rattle.rule_source.specs.Asking.{Asks}
 use Rattle.rule_source.specs.Claimed.{claims_in}
-use Rattle.rule_source.specs.Counted.{count_of, is_limit, is_line, is_row}
+use Rattle.rule_source.specs.Effects.{AllNameOnce, table_in}
+use Rattle.rule_source.specs.Formulas.{AreLimits}
+use Rattle.rule_source.specs.Given.{AreRows}
 use Rattle.rule_source.specs.Patterns.{allowed_in}
 use Rattle.rule_source.specs.declared.bits.Bits.{Bits}
 use Rattle.rule_source.specs.declared.claimed.Claim.{Claim}
@@ -17,16 +19,17 @@ use Rattle.rule_source.specs.declared.source.Source.{Source}
 pub record IsRuleOf (b : Bits) (ls : List Line) (r : Rule) : Type 0 where
   pub bits : r.bits ≡ length b.names.items
   pub patterns : r.allowed.items ≡ allowed_in b ls
-  pub limits : length r.limits.items ≡ count_of is_limit ls
-  pub lines : length r.table.items ≡ count_of is_line ls
+  pub limits : AreLimits b ls r.limits.items
+  pub lines : r.table.items ≡ table_in b ls
 
--- the text of a file is read as this: each statement of the text is in the file, and each that makes the rule, or gives a row, is in these
+-- the text of a file is read as this: each statement of the text is in the file, no line of its table names a bit twice, and the rule and the given rows are what the statements say
 pub record IsRead (text : List ℕ) (s : Source) : Type 0 where
   pub file : Covers text 0 (file_tokens s.file) (length text)
   pub text_is : s.bits.text.now ≡ text
   pub names : map (λ n. n.now) s.bits.names.items ≡ map (λ t. bytes_of text t) s.file.bits.items
   pub rule : IsRuleOf s.bits s.file.lines.items s.rule
-  pub rows : length s.rows.items ≡ count_of is_row s.file.lines.items
+  pub once : AllNameOnce s.bits s.file.lines.items
+  pub rows : AreRows s.bits s.file.lines.items s.rows.items
 
 -- these are the claims of the file, in their order
 pub record AreClaims (s : Source) (claims : List Claim) : Type 0 where

@@ -5,7 +5,7 @@ use Rattle.std.specs.Fmt.{decimal}
 use Rattle.rules.specs.declared.property.Property.{Property}
 use Rattle.rules.specs.declared.property.Property.TheVariants.{Allowed, Stuck, Left}
 use Rattle.rule_source.specs.declared.claimed.Claim.{Claim}
-use Rattle.rule_source.specs.declared.source.Given.{Given}
+use Rattle.rule_source.specs.declared.given.Given.{Given}
 use Rattle.rule_source.specs.declared.source.Source.{Source}
 use Rattle.rule_report.specs.declared.answer.Answer.{Answer}
 use Rattle.rule_report.specs.declared.answer.Answer.TheVariants.{Never, First, TooLarge, Refused}

@@ -6,10 +6,11 @@ use Rattle.formulas.specs.declared.formula.Formula.{Formula}
 use Rattle.trees.specs.declared.tree.Item.{Item}
 use Rattle.trees.specs.declared.tree.Item.TheVariants.{Free, Formula as claimed}
 use Rattle.trees.specs.declared.tree.Sort.TheVariants.{Set}
-use Rattle.syntax.specs.Covering.{Covers}
+use Rattle.tokens.specs.Covering.{Covers}
+use Rattle.tokens.specs.Words.{words}
+use Rattle.tokens.specs.declared.token.Token.{Token as Word}
 use Rattle.syntax.specs.Items.{read_words, view_items}
-use Rattle.syntax.specs.Views.{names_of, words}
-use Rattle.syntax.specs.declared.token.Token.{Token as Word}
+use Rattle.syntax.specs.Views.{names_of}
 use Rattle.resolve.specs.Says.{text}
 use Rattle.rule_file.specs.Claims.{bytes_of}
 use Rattle.rule_file.specs.declared.token.Token.{Token}

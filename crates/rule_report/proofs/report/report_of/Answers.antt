@@ -10,5 +10,6 @@ returns c =
       text_is = e.text;
       names = e.names;
       rule = record { bits = e.bits; patterns = e.patterns; limits = e.limits; lines = e.lines };
+      once = e.once;
       rows = e.rows;
     }, h)) c.report_of_source.ensures
