@@ -13,7 +13,7 @@ use Rattle.rule_source.specs.Claimed.{put_of}
 use Rattle.rule_source.specs.Formulas.{FormulaOf}
 use Rattle.rule_source.specs.Patterns.{literals_in}
 
--- the property is the opposite of what the statement claims: of `never` that its pattern is met, of `claim` that its formula fails
+-- the property is the opposite of what the statement claims: of `never` that its pattern is met, of `claim` that its formula fails, which speaks of a row and of the row after one step
 abbrev pub Denies : Bits → Statement → Property → Type 0
 Denies b (statement.Never n p) (Met q) = q ≡ literals_in b p
 Denies b (statement.Claim n f) (Fails a) = FormulaOf b Step f a

@@ -81,7 +81,6 @@ fn claim_of<'s, 't: 's>(
 }
 
 // The claim of a statement, if it puts one, behind those that are there.
-#[tactic(auto, using(crate::proofs::NamesLaws::all_push))]
 fn push_claim<'s, 't: 's>(
     alloc: Global,
     source: &'s Source<'t>,
