@@ -1,9 +1,9 @@
 // An expression as lines. One that is short stands on a line; of a longer one the operands stand on lines of their own, the operator before the second,
 // and what is said of bound names a step further in.
 use printing::print::expression;
+use printing::signs::{left_of, level, quantifier_word, right_of, sign_word};
 use std::alloc::AllocError;
-use syntax::operators::{CLOSED, EXTREME, NOT, sign, tightness_of};
-use trees::tree::{Binary, Expr, Name, Quantifier, Sort, Unary};
+use trees::tree::{Binary, Expr, Name};
 
 // How long a line may be.
 const WIDTH: usize = 100;
@@ -11,32 +11,12 @@ const WIDTH: usize = 100;
 // How far in what is said of bound names begins.
 const STEP: usize = 4;
 
-// How tight an expression binds.
-fn level(expr: &Expr) -> u8 {
-    match expr {
-        Expr::Bound(_, _, _, _, _) => 0,
-        Expr::Unary(Unary::Not, _, _) => NOT,
-        Expr::Unary(Unary::Min, _, _) | Expr::Unary(Unary::Max, _, _) => EXTREME,
-        Expr::Binary(binary, _, _, _) => tightness_of(*binary).level,
-        _ => CLOSED,
-    }
-}
-
 fn new_line(out: &mut String, indent: usize) -> Result<(), AllocError> {
     out.push('\n')?;
     for _ in 0..indent {
         out.push(' ')?;
     }
     Ok(())
-}
-
-fn word(quantifier: Quantifier, sort: Sort) -> &'static str {
-    match (quantifier, sort) {
-        (Quantifier::Some, Sort::Place) => "ex1",
-        (Quantifier::Some, Sort::Set) => "ex2",
-        (Quantifier::All, Sort::Place) => "all1",
-        (Quantifier::All, Sort::Set) => "all2",
-    }
 }
 
 // The names that are bound, behind the word that binds them.
@@ -60,20 +40,10 @@ fn put_operand(out: &mut String, expr: &Expr, lowest: u8, indent: usize) -> Resu
     out.push(')')
 }
 
-// How tight the left operand has to bind.
-fn left_level(binary: Binary) -> u8 {
-    let tight = tightness_of(binary);
-    if tight.right == tight.level {
-        tight.level + 1
-    } else {
-        tight.level
-    }
-}
-
 // An operator at the beginning of a line.
 fn put_sign(out: &mut String, binary: Binary, indent: usize) -> Result<(), AllocError> {
     new_line(out, indent)?;
-    out.push_str(sign(binary))?;
+    out.push_str(sign_word(binary).1)?;
     out.push(' ')
 }
 
@@ -86,13 +56,13 @@ pub fn put(out: &mut String, expr: &Expr, indent: usize) -> Result<(), AllocErro
     }
     match expr {
         Expr::Binary(binary, left, right, _) => {
-            put_operand(out, left, left_level(*binary), indent)?;
+            put_operand(out, left, left_of(*binary), indent)?;
             put_sign(out, *binary, indent)?;
-            let inner = indent.saturating_add(sign(*binary).len()).saturating_add(1);
-            put_operand(out, right, tightness_of(*binary).right, inner)
+            let inner = indent.saturating_add(sign_word(*binary).1.len()).saturating_add(1);
+            put_operand(out, right, right_of(*binary), inner)
         }
         Expr::Bound(quantifier, sort, names, body, _) => {
-            put_names(out, word(*quantifier, *sort), names)?;
+            put_names(out, quantifier_word(*quantifier, *sort).1, names)?;
             let inner = indent.saturating_add(STEP);
             new_line(out, inner)?;
             put(out, body, inner)

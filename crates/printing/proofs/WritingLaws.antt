@@ -39,7 +39,7 @@ next_item xs i d h e = rw add-one (next xs i d h e)
 pub name_step : (a b c : Writer) (t : List ℕ) (x : Name) (xs more : List Name) → Writes a b (λ r. comma ∷ r) → Writes b c (λ r. word kind.Name t ∷ r) → t ≡ string_bytes x.text → xs ≡ x ∷ more → (rest : List Word) → text_with c (names_more (names_of more) rest) ≡ text_with a (names_more (names_of xs) rest)
 name_step a b c t x xs more p q e s = λ rest.
     q (names_more (names_of more) rest) ∙ p (word kind.Name t ∷ names_more (names_of more) rest) ∙ ap (λ u. text_with a (comma ∷ word kind.Name u ∷ names_more (names_of more) rest)) e
-        ∙ ap (λ ys. text_with a (names_more (names_of ys) rest)) (sym s)
+    ∙ ap (λ ys. text_with a (names_more (names_of ys) rest)) (sym s)
 
 pub parameter_step : (a b c : Writer) (x : Parameter) (xs more : List Parameter) → Writes a b (λ r. comma ∷ r) → Writes b c (λ r. sort_word x.sort ∷ word kind.Name (string_bytes x.name.text) ∷ r) → xs ≡ x ∷ more → (rest : List Word) → text_with c (parameters_more (view_parameters more) rest) ≡ text_with a (parameters_more (view_parameters xs) rest)
 parameter_step a b c x xs more p q s = λ rest.

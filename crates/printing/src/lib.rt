@@ -2,5 +2,5 @@
 #![tactic(auto)]
 
 pub mod print;
-mod signs;
+pub mod signs;
 mod writer;

@@ -59,12 +59,7 @@ fn put_enclosed(writer: &mut Writer, style: Style, expr: &Expr) -> Result<(), Al
 
 // An operand, in parentheses where it binds less tight than it has to.
 #[cycle(printing)]
-fn put_operand(
-    writer: &mut Writer,
-    style: Style,
-    expr: &Expr,
-    lowest: u8,
-) -> Result<(), AllocError>
+fn put_operand(writer: &mut Writer, style: Style, expr: &Expr, lowest: u8) -> Result<(), AllocError>
     ensures { OnOk result (Writes writer.old writer.new (λ rest. written (enclosed (within_parens (is_all style) lowest (view expr.now)) (text (is_all style) (view expr.now))) rest)) }
 {
     if level(expr) < lowest || (is_all(style) && level(expr) < CLOSED) {
@@ -187,11 +182,7 @@ fn put_formula(writer: &mut Writer, style: Style, formula: &Expr) -> Result<(), 
     writer.word(Kind::Semicolon, ";")
 }
 
-fn put_predicate(
-    writer: &mut Writer,
-    style: Style,
-    predicate: &Predicate,
-) -> Result<(), AllocError>
+fn put_predicate(writer: &mut Writer, style: Style, predicate: &Predicate) -> Result<(), AllocError>
     ensures { OnOk result (Writes writer.old writer.new (λ rest. written_item (text_item (is_all style) (defined (string_bytes predicate.now.name.text) (view_parameters predicate.now.parameters.items) (view predicate.now.body))) rest)) }
 {
     writer.word(Kind::Predicate, "pred")?;

@@ -55,29 +55,6 @@ pub fn tightness_of(binary: Binary) -> Tightness
     }
 }
 
-pub fn sign(binary: Binary) -> &'static str {
-    match binary {
-        Binary::Iff => "<=>",
-        Binary::Implies => "=>",
-        Binary::Or => "|",
-        Binary::And => "&",
-        Binary::In => "in",
-        Binary::NotIn => "notin",
-        Binary::Sub => "sub",
-        Binary::Equal => "=",
-        Binary::Differs => "~=",
-        Binary::Less => "<",
-        Binary::AtMost => "<=",
-        Binary::Greater => ">",
-        Binary::AtLeast => ">=",
-        Binary::Union => "union",
-        Binary::Inter => "inter",
-        Binary::Without => "\\",
-        Binary::Plus => "+",
-        Binary::Minus => "-",
-    }
-}
-
 /// The operator that a kind of token is, if it is one.
 pub fn binary(kind: Kind) -> Option<Binary>
     ensures { result ≡ binary_of kind }

@@ -143,7 +143,7 @@ word_read n k b d s ws f h =
     let first : take (length (b ∷ d)) ((b ∷ d) ++ s) ≡ b ∷ d = take_all (b ∷ d) s in
     let rest : drop (length (b ∷ d)) ((b ∷ d) ++ s) ≡ s = drop_all (b ∷ d) s in
     ap (λ o. first_then o ((b ∷ d) ++ s) (scan_from n)) f ∙ ap (λ t. with_first (word k t) (scan_from n (behind_gap (drop (length (b ∷ d)) ((b ∷ d) ++ s))))) first
-        ∙ ap (λ t. with_first (word k (b ∷ d)) (scan_from n (behind_gap t))) rest ∙ ap (with_first (word k (b ∷ d))) h
+    ∙ ap (λ t. with_first (word k (b ∷ d)) (scan_from n (behind_gap t))) rest ∙ ap (with_first (word k (b ∷ d))) h
 
 spaced_longer : (p : Bool) (b : ℕ) (d e s : List ℕ) (n : ℕ) → length (blank_if p ++ b ∷ (d ++ (e ++ s))) ≤ suc n → length s ≤ n
 spaced_longer p b d e s n h = let i = length-append d (e ++ s) in let j = length-append e s in go p h where

@@ -67,9 +67,9 @@ scan_step text ts at n g t old f pos within s e gap =
     let left : behind_gap (drop n (drop at text)) ≡ drop (at + n + g) text = ap behind_gap rest ∙ ap (λ m. drop m (drop (at + n) text)) (sym gap) ∙ drop-drop g (at + n) text in
     let is_word : word t.kind (take n (drop at text)) ≡ word t.kind (bytes_of text t) = ap (word t.kind) (sym (bytes_are text t at n s e within)) in
     let fewer : length (drop (at + n + g) text) ≤ next.0 =
-        let l = length-drop (at + n + g) text in
-        let m = length-drop at text in
-        omega (arith, l, m, next.1, old.1) in
+    let l = length-drop (at + n + g) text in
+    let m = length-drop at text in
+    omega (arith, l, m, next.1, old.1) in
     let step : scan_from old.0 (drop at text) ≡ with_first (word t.kind (bytes_of text t)) (scan_from next.0 (drop (at + n + g) text)) = next.2 ∙ ap (λ w. with_first w (scan_from next.0 (behind_gap (drop n (drop at text))))) is_word ∙ ap (λ r. with_first (word t.kind (bytes_of text t)) (scan_from next.0 r)) left in
     (next.0, fewer, old.2 ∙ ap (behind_words (words text ts)) step ∙ behind_more (words text ts) (word t.kind (bytes_of text t)) (scan_from next.0 (drop (at + n + g) text)) ∙ ap (λ ws. behind_words ws (scan_from next.0 (drop (at + n + g) text))) (sym (words_push text ts t)))
 

@@ -14,7 +14,10 @@ pub const FOREIGN: [(&[u8], &str); 38] = [
     (b"variant", "trees are not supported"),
     (b"sometype", "trees are not supported"),
     (b"in_state_space", "trees are not supported"),
-    (b"m2l", "rows of a fixed length are not supported: say where the row ends by a place of its own"),
+    (
+        b"m2l",
+        "rows of a fixed length are not supported: say where the row ends by a place of its own",
+    ),
     (b"allpos", "rows of a fixed length are not supported"),
     (b"lastpos", "rows of a fixed length are not supported"),
     (b"let0", "`let` is not supported: write a predicate"),
@@ -30,16 +33,34 @@ pub const FOREIGN: [(&[u8], &str); 38] = [
     (b"prefix", "operations on automata are not supported"),
     (b"pconst", "constants are not supported: write the number"),
     (b"const", "constants are not supported: write the number"),
-    (b"where", "`where` is not supported: write `assert`, or `&` or `=>` behind the quantifier"),
-    (b"defaultwhere1", "`where` is not supported: write `assert`, or `&` or `=>` behind the quantifier"),
-    (b"defaultwhere2", "`where` is not supported: write `assert`, or `&` or `=>` behind the quantifier"),
+    (
+        b"where",
+        "`where` is not supported: write `assert`, or `&` or `=>` behind the quantifier",
+    ),
+    (
+        b"defaultwhere1",
+        "`where` is not supported: write `assert`, or `&` or `=>` behind the quantifier",
+    ),
+    (
+        b"defaultwhere2",
+        "`where` is not supported: write `assert`, or `&` or `=>` behind the quantifier",
+    ),
     (b"verify", "modes are not supported"),
     (b"execute", "modes are not supported"),
     (b"[", "universes are not supported"),
     (b"]", "universes are not supported"),
-    (b"*", "of arithmetic there is only `+` and `-` with a number"),
-    (b"/", "of arithmetic there is only `+` and `-` with a number"),
-    (b"%", "of arithmetic there is only `+` and `-` with a number"),
+    (
+        b"*",
+        "of arithmetic there is only `+` and `-` with a number",
+    ),
+    (
+        b"/",
+        "of arithmetic there is only `+` and `-` with a number",
+    ),
+    (
+        b"%",
+        "of arithmetic there is only `+` and `-` with a number",
+    ),
     (b".", "trees and intervals are not supported"),
     (b"^", "trees and intervals are not supported"),
 ];
