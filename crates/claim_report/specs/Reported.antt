@@ -1,5 +1,5 @@
 -- What is reported of a text that is read.
-use Rattle.std.specs.Prelude.{◌≡◌, ℕ, ◌+◌, ◌*◌, ◌≤◌, List, ◌++◌, length, map, Ok, string_bytes, codes}
+use Rattle.std.specs.Prelude.{◌≡◌, ℕ, ◌+◌, ◌*◌, ◌≤◌, List, ◌++◌, map, string_bytes, codes}
 use Rattle.std.specs.Fmt.{decimal}
 use Rattle.display.specs.Hex.{hex_of}
 use Rattle.room.specs.Floor.{floor_words}
@@ -10,14 +10,11 @@ use Rattle.solve.specs.Answers.{Answers}
 use Rattle.solve.specs.Questions.{HoldsOf, FailsOf, Puts, names_of as names_in}
 use Rattle.claim_report.specs.Subjects.{nothing, subject_from}
 use Rattle.claim_report.specs.Told.{told_of, columns_told}
-use Rattle.tokens.specs.declared.token.Token.{Token}
-use Rattle.tokens.specs.Covering.{Covers}
 use Rattle.claim_report.specs.Placed.{IsPlaceOf, IsTooLarge}
 use Rattle.claim_report.specs.Drawn.{IsAutomaton, IsDrawn}
 use Rattle.claim_report.specs.declared.automaton.Smallest.{Smallest}
 use Rattle.claim_report.specs.declared.automaton.Smallest.TheVariants.{Automaton as Found, TooLarge}
-use Rattle.syntax.specs.Items.{read_words, view_items}
-use Rattle.tokens.specs.Words.{words}
+use Rattle.syntax.specs.Reads.{IsReadAs}
 use Rattle.claim_report.specs.declared.report.Form.{Form}
 use Rattle.claim_report.specs.declared.report.Form.TheVariants.{Rows, Columns}
 use Rattle.claim_report.specs.declared.report.Wish.{Wish}
@@ -53,10 +50,6 @@ pub record IsLines (items : List Item) (printed : List ℕ) : Type 0 where
   pub fits : (floor_words holds most + 4 * most ≤ 1048576) × (floor_words fails most + 4 * most ≤ 1048576)
   pub printed_is : printed ≡ line_of most holds ++ line_of most fails
 
--- the bytes of a text are read as these items: its tokens leave nothing out but blanks and comments, and the items are what the tokens are read as
-abbrev pub IsText : List ℕ → List Item → Type 0
-IsText text items = (all : List Token) × Covers text 0 all (length text) × ((c : ℕ) → c ≡ 2000 → read_words (length all) c (words text all) ≡ Ok (view_items items))
-
 -- the smallest automaton of the text's claim is one that can be drawn; or the words tell how many classes do not suffice for it, and where
 abbrev pub Shows : List ℕ → List ℕ → List Item → Smallest → List ℕ → Type 0
 Shows file text items (Found t) printed = IsDrawn items t
@@ -67,6 +60,6 @@ ShowsAutomaton file text items printed = (a : Smallest) × IsAutomaton items a �
 
 -- the words are what is wanted of a text in a file of this name
 abbrev pub Fulfils : List ℕ → List ℕ → Wish → List ℕ → Type 0
-Fulfils file text (Asked form) printed = (items : List Item) × IsText text items × Reported file text form items printed
-Fulfils file text (Automaton drawing) printed = (items : List Item) × IsText text items × ShowsAutomaton file text items printed
-Fulfils file text Bytes printed = (items : List Item) × IsText text items × IsLines items printed
+Fulfils file text (Asked form) printed = (items : List Item) × IsReadAs text items × Reported file text form items printed
+Fulfils file text (Automaton drawing) printed = (items : List Item) × IsReadAs text items × ShowsAutomaton file text items printed
+Fulfils file text Bytes printed = (items : List Item) × IsReadAs text items × IsLines items printed

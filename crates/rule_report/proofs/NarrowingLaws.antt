@@ -16,9 +16,9 @@ answered_with b s ls k h = record { some = k; within = omega arith; answered = h
 pub answered_past : (b : Bits) (s : Subject) (ls : List Line) (k : ℕ) (x : Line) → k < length ls → x ≡ get_or ls k x → is_of_rule x.statement ≡ false → AnsweredBefore b s ls k → AnsweredBefore b s ls (k + 1)
 answered_past b s ls k x within read none before =
     let here : before.some ≤ k → (l : Line) → slice_get ls k ≡ Some l → is_of_rule l.statement ≡ false = λ _ l e.
-        let same : Some l ≡ Some x = sym e ∙ slice_get-get_or ls k x within ∙ ap Some (sym read) in
-        let it : l ≡ x = cc in
-        ap (λ (y : Line). is_of_rule y.statement) it ∙ none in
+    let same : Some l ≡ Some x = sym e ∙ slice_get-get_or ls k x within ∙ ap Some (sym read) in
+    let it : l ≡ x = cc in
+    ap (λ (y : Line). is_of_rule y.statement) it ∙ none in
     record {
       some = before.some;
       within = let h = before.within in omega arith;

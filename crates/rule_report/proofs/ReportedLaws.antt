@@ -106,7 +106,7 @@ pub tells_more : (file title : List ℕ) (s : Source) (o : Options) (claims : Li
 tells_more file title s o claims i claim old more new within read t u text pictures =
     let grown = tells_append file title s o (map of_claim (take i claims)) (of_claim claim ∷ []) old more new t u text pictures in
     let one : map of_claim (take (i + 1) claims) ≡ map of_claim (take i claims) ++ of_claim claim ∷ [] =
-        map_more of_claim claims i claim within ∙ ap (λ (x : Claim). map of_claim (take i claims) ++ of_claim x ∷ []) (sym read) in
+    map_more of_claim claims i claim within ∙ ap (λ (x : Claim). map of_claim (take i claims) ++ of_claim x ∷ []) (sym read) in
     subst (λ asked. Tells file title s o asked new) (sym one) grown
 
 -- the file's name and given rows, the answers to the three questions, and those to the claims

@@ -33,7 +33,7 @@ last_is r w n h columns f l =
     let size : length rows ≡ suc n = sym (length-map rows items) ∙ ap length f.rows ∙ rows_from-length r w n in
     let place : length rows - 1 ≡ n = omega arith in
     let read : Some columns ≡ slice_get (rows_from r w n) n =
-        ap Some l.its_columns ∙ sym (ap (option_map items) l.is_last) ∙ sym (slice_get-map items rows (length rows - 1)) ∙ ap (λ xs. slice_get xs (length rows - 1)) f.rows ∙ ap (slice_get (rows_from r w n)) place in
+    ap Some l.its_columns ∙ sym (ap (option_map items) l.is_last) ∙ sym (slice_get-map items rows (length rows - 1)) ∙ ap (λ xs. slice_get xs (length rows - 1)) f.rows ∙ ap (slice_get (rows_from r w n)) place in
     let same : Some columns ≡ Some (row_after r w n) = read ∙ rows_from-last r w n in
     cc
 

@@ -1,15 +1,12 @@
 -- What a formula of a rule file says: what its words say behind a line that declares the sets of which it speaks.
-use Rattle.std.specs.Prelude.{◌≡◌, ℕ, List, [], ◌∷◌, ◌++◌, ◌↔◌, Option, Some, None, Ok, codes, length, map}
+use Rattle.std.specs.Prelude.{◌≡◌, ℕ, List, [], ◌∷◌, ◌++◌, ◌↔◌, Option, Some, None, codes, map}
 use Rattle.std.specs.List.{AllZip, filter_map, join_by}
 use Rattle.formulas.specs.Meaning.{Env, Meaning}
 use Rattle.formulas.specs.declared.formula.Formula.{Formula}
 use Rattle.trees.specs.declared.tree.Item.{Item}
 use Rattle.trees.specs.declared.tree.Item.TheVariants.{Free, Formula as claimed}
 use Rattle.trees.specs.declared.tree.Sort.TheVariants.{Set}
-use Rattle.tokens.specs.Covering.{Covers}
-use Rattle.tokens.specs.Words.{words}
-use Rattle.tokens.specs.declared.token.Token.{Token as Word}
-use Rattle.syntax.specs.Items.{read_words, view_items}
+use Rattle.syntax.specs.Reads.{IsReadAs}
 use Rattle.syntax.specs.Views.{names_of}
 use Rattle.resolve.specs.Says.{text}
 use Rattle.rule_file.specs.Claims.{bytes_of}
@@ -34,10 +31,6 @@ declaration names = codes "var2 " ++ join_by (λ n. n) (codes ", ") names ++ cod
 abbrev pub declared : List (List ℕ) → List ℕ → List ℕ
 declared names formula = declaration names ++ formula ++ codes "\n;\n"
 
--- bytes are read as these items: their tokens leave nothing out but blanks and comments, and the items are what the tokens are read as
-abbrev pub AreRead : List ℕ → List Item → Type 0
-AreRead bytes items = (all : List Word) × Covers bytes 0 all (length bytes) × ((c : ℕ) → c ≡ 2000 → read_words (length all) c (words bytes all) ≡ Ok (view_items items))
-
 -- a declaration of sets with these names, and one formula
 abbrev pub AreOne : List Item → List (List ℕ) → Type 0
 AreOne (Free Set sets ∷ claimed said ∷ []) names = names_of sets.items ≡ names
@@ -46,7 +39,7 @@ AreOne _ names = ⊥
 -- the formula is true where that is so which a token of the file says: its bytes are read behind the names of the sets, of which each has its place among these as its number
 pub record FormulaOf (b : Bits) (about : About) (t : Token) (f : Formula) : Type 0 where
   pub items : List Item
-  pub read : AreRead (declared (sets_of about b) (bytes_of b.text.now t)) items
+  pub read : IsReadAs (declared (sets_of about b) (bytes_of b.text.now t)) items
   pub one : AreOne items (sets_of about b)
   pub means : (e : Env) → Meaning f e ↔ (text items e).claimed
 

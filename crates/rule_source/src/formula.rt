@@ -7,7 +7,8 @@ ghost use Rattle.formulas.specs.Meaning.{Env, Meaning};
 ghost use Rattle.resolve.specs.Asks.{all_hold};
 ghost use Rattle.resolve.specs.Says.{text as text_of};
 ghost use Rattle.rule_file.specs.Claims.{bytes_of};
-ghost use Rattle.rule_source.specs.Formulas.{AreOne, AreRead, FormulaOf, declaration, declared, sets_of};
+ghost use Rattle.rule_source.specs.Formulas.{AreOne, FormulaOf, declaration, declared, sets_of};
+ghost use Rattle.syntax.specs.Reads.{IsReadAs};
 
 use crate::bits::{Bits, word};
 use crate::fault::Fault;
@@ -128,7 +129,7 @@ fn check_one(alloc: Global, composed: &Composed) -> Result<(), Fault> {
 
 // The items of the composed text.
 fn items_of(alloc: Global, composed: &Composed) -> Result<Vec<Item>, Fault>
-    ensures { IfOk result (λ v. AreRead (string_bytes composed.now.text) v.items) }
+    ensures { IfOk result (λ v. IsReadAs (string_bytes composed.now.text) v.items) }
 {
     match read(alloc, composed.text.as_bytes()) {
         Ok(items) => Ok(items),

@@ -5,3 +5,4 @@ pub mod Grammar
 pub mod Views
 pub mod Items
 pub mod Printed
+pub mod Reads

@@ -1,12 +1,11 @@
 // Reads a text: its tokens, and from these its items.
 ghost use Rattle.std.specs.Prelude.{◌≡◌, ℕ, Bool, Ok, List, IfOk, length, map};
-ghost use Rattle.tokens.specs.Covering.{Covers};
-ghost use Rattle.tokens.specs.declared.token.Token.{Token};
 ghost use Rattle.tokens.specs.Words.{words};
 ghost use Rattle.tokens.specs.Spaced.{spaced, NamesAlone};
 ghost use Rattle.syntax.specs.Views.{Gives};
 ghost use Rattle.syntax.specs.Items.{PlainItem, view_items, read_words, written_items, bare_item, AreItems};
 ghost use Rattle.syntax.specs.Printed.{text_item, AreTreeItems};
+ghost use Rattle.syntax.specs.Reads.{IsReadAs};
 
 use crate::expression::MOST_OPEN;
 use crate::fault::Fault;
@@ -64,7 +63,7 @@ pub fn read_tokens(heap: Global, text: &[u8], tokens: &[Token]) -> Result<Vec<It
 ///
 /// The first fault, that something is too large, or that there is not enough memory.
 pub fn read(heap: Global, text: &[u8]) -> Result<Vec<Item>, Fault>
-    ensures reads { IfOk result (λ v. (all : List Token) × Covers text.now 0 all (length text.now) × ((c : ℕ) → c ≡ 2000 → read_words (length all) c (words text.now all) ≡ Ok (view_items v.items))) }
+    ensures reads { IfOk result (λ v. IsReadAs text.now v.items) }
     ensures printed { (all : Bool) (is : List PlainItem) → AreTreeItems is → NamesAlone (written_items (map (text_item all) is)) → text.now ≡ spaced (written_items (map (text_item all) is)) → Gives (λ v. view_items v.items) result (Ok is) }
 {
     let tokens = tokens(heap, text)?;

@@ -10,7 +10,7 @@ returns-in-Bytes c =
     let items = c.in_ok-items.items.items in
     subst (λ wish. IfOk c.lines.result (λ printed. Fulfils file text wish (string_bytes printed))) (sym c.in-Bytes.is)
     (IfOk-weaker c.lines.result _ _
-    (λ printed h. (items, c.in_ok-items.ensures, subst (λ l. IsLines l (string_bytes printed)) c.deref.ensures.value h)) c.lines.ensures)
+    (λ printed h. (items, c.in_ok-items.ensures.reads, subst (λ l. IsLines l (string_bytes printed)) c.deref.ensures.value h)) c.lines.ensures)
 
 pub returns-in-Answer : goal.returns-in-Answer
 returns-in-Answer c =
@@ -19,7 +19,7 @@ returns-in-Answer c =
     let items = c.in_ok-items.items.items in
     subst (λ wish. IfOk c.answer_of.result (λ printed. Fulfils file text wish (string_bytes printed))) (sym c.in-Answer.is)
     (IfOk-weaker c.answer_of.result _ _
-    (λ printed h. (items, c.in_ok-items.ensures, subst (λ l. Reported file text c.in-Answer.form l (string_bytes printed)) c.deref-in-Answer.ensures.value h)) c.answer_of.ensures)
+    (λ printed h. (items, c.in_ok-items.ensures.reads, subst (λ l. Reported file text c.in-Answer.form l (string_bytes printed)) c.deref-in-Answer.ensures.value h)) c.answer_of.ensures)
 
 pub returns-in-Automaton : goal.returns-in-Automaton
 returns-in-Automaton c =
@@ -28,4 +28,4 @@ returns-in-Automaton c =
     let items = c.in_ok-items.items.items in
     subst (λ wish. IfOk c.automaton.result (λ printed. Fulfils file text wish (string_bytes printed))) (sym c.in-Automaton.is)
     (IfOk-weaker c.automaton.result _ _
-    (λ printed h. (items, c.in_ok-items.ensures, subst (λ l. ShowsAutomaton file text l (string_bytes printed)) c.deref-in-Automaton.ensures.value h)) c.automaton.ensures)
+    (λ printed h. (items, c.in_ok-items.ensures.reads, subst (λ l. ShowsAutomaton file text l (string_bytes printed)) c.deref-in-Automaton.ensures.value h)) c.automaton.ensures)

@@ -5,7 +5,8 @@ use Rattle.formulas.specs.declared.formula.Formula.{Formula}
 use Rattle.trees.specs.declared.tree.Item.{Item}
 use Rattle.resolve.specs.Says.{text}
 use Rattle.rule_file.specs.Claims.{bytes_of}
-use Rattle.rule_source.specs.Formulas.{AreOne, AreRead, declared, sets_of}
+use Rattle.syntax.specs.Reads.{IsReadAs}
+use Rattle.rule_source.specs.Formulas.{AreOne, declared, sets_of}
 use Rattle.rule_source.proofs.formula.formula_of.Goals as goal
 
 pub returns-in-Some : goal.returns-in-Some
@@ -17,7 +18,7 @@ returns-in-Some c =
     c.in_ok-composed.ensures ∙ ap (λ (l : List (List ℕ)). declared l (bytes_of b.text.now c.args.formula)) (ap (λ l. map (λ n. string_bytes n) l) c.deref.ensures.value ∙ sets) in
     record {
       items = items;
-      read = subst (λ (t : List ℕ). AreRead t items) bytes c.in_ok-items.ensures;
+      read = subst (λ (t : List ℕ). IsReadAs t items) bytes c.in_ok-items.ensures;
       one = subst (λ (l : List Item). AreOne l (sets_of c.args.about b)) c.deref-2.ensures.value
           (subst (λ (l : List (List ℕ)). AreOne c.deref-2.result.now l) (ap (λ l. map (λ n. string_bytes n) l) c.deref-3.ensures.value ∙ sets) (OnTrue_at c.if-are_one.true c.are_one.ensures));
       means = subst (λ (l : List Item). (e : Env) → Meaning c.in-Some.read e ↔ (text l e).claimed) c.deref-then-are_one.ensures.value

@@ -1,15 +1,15 @@
-use Rattle.std.proofs.Common.{List, Some, length, sym, ap, ◌∙◌}
+use Rattle.std.proofs.Common.{List, Some, sym, ap, ◌∙◌}
 use Rattle.std.proofs.lemmas.Result.{err_from_is_err_and}
 use Rattle.tokens.specs.declared.token.Token.{Token}
 use Rattle.tokens.specs.Words.{words}
-use Rattle.tokens.specs.Covering.{Covers}
 use Rattle.syntax.specs.Items.{view_items}
+use Rattle.syntax.specs.Reads.{AreTokens}
 use Rattle.syntax.proofs.ParseLaws.{found_tokens}
 use Rattle.syntax.proofs.TextLaws.{read_text, fails_text}
 use Rattle.syntax.proofs.parse.read.Goals as goal
 
 pub returns-clause-reads : goal.returns-clause-reads
-returns-clause-reads c = found_tokens (λ v. view_items v.items) c.read_tokens.result c.args.text.now (λ (ts : List Token). Covers c.args.text.now 0 ts (length c.args.text.now)) c.deref.result.now c.in_ok-tokens.tokens.items c.in_ok-tokens.ensures.covers c.deref.ensures.value c.read_tokens.ensures.gives
+returns-clause-reads c = found_tokens (λ v. view_items v.items) c.read_tokens.result c.args.text.now (λ (ts : List Token). AreTokens c.args.text.now ts) c.deref.result.now c.in_ok-tokens.tokens.items (c.in_ok-tokens.ensures.covers, c.in_ok-tokens.ensures.words) c.deref.ensures.value c.read_tokens.ensures.gives
 
 pub returns-clause-printed : goal.returns-clause-printed
 returns-clause-printed c = λ all is x names e.
