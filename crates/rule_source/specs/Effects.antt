@@ -20,7 +20,7 @@ use Rattle.rule_file.specs.declared.tree.Statement.TheVariants as statement
 use Rattle.rule_source.specs.Patterns.{literals_in, number}
 use Rattle.rule_source.specs.declared.bits.Bits.{Bits}
 
--- the bit that a change names, and its value after the step
+-- the name of the bit that a change is of
 abbrev pub changed : Change → Token
 changed (change.Set t) = t
 changed (change.Clear n t) = t
@@ -32,6 +32,7 @@ as_was b (source.Own t) = AsWas side.Own (number b t)
 as_was b (source.Left l d t) = AsWas side.Left (number b t)
 as_was b (source.Right r d t) = AsWas side.Right (number b t)
 
+-- the value that a change gives its bit
 abbrev pub value : Bits → Change → NewBit
 value b (change.Set t) = Fixed true
 value b (change.Clear n t) = Fixed false
@@ -47,11 +48,12 @@ said b j cs = filter_map (said_by b j) cs
 abbrev pub changes : Effects → List Change
 changes e = e.before.items ++ e.after.items
 
--- bit j after the step: as a change says, and where none names it as it was
+-- the first, or what stands for it where there is none
 abbrev pub first_or : NewBit → List NewBit → NewBit
 first_or d [] = d
 first_or d (n ∷ ns) = n
 
+-- bit j after the step: what the change that names it says, and where none does the bit as it was
 abbrev pub bit_after : Bits → Effects → ℕ → NewBit
 bit_after b e j = first_or (AsWas side.Own j) (said b j (changes e))
 

@@ -24,10 +24,11 @@ abbrev pub sets_of : About → Bits → List (List ℕ)
 sets_of Row b = map (λ n. n.now) b.names.items ++ codes "row" ∷ []
 sets_of Step b = set_names (map (λ n. n.now) b.names.items)
 
--- the line that declares sets of these names, and behind it a formula, which ends with its line
+-- the line that declares sets of these names
 abbrev pub declaration : List (List ℕ) → List ℕ
 declaration names = codes "var2 " ++ join_by (λ n. n) (codes ", ") names ++ codes ";\n"
 
+-- a formula behind that line
 abbrev pub declared : List (List ℕ) → List ℕ → List ℕ
 declared names formula = declaration names ++ formula ++ codes "\n;\n"
 
@@ -36,7 +37,7 @@ abbrev pub AreOne : List Item → List (List ℕ) → Type 0
 AreOne (Free Set sets ∷ claimed said ∷ []) names = names_of sets.items ≡ names
 AreOne _ names = ⊥
 
--- the formula is true where that is so which a token of the file says: its bytes are read behind the names of the sets, of which each has its place among these as its number
+-- the bytes of a token, behind the line that declares the sets, are read as these sets and one formula; f is true of exactly the places and sets of which that text claims it, where a set's number is the place of its name in the line
 pub record FormulaOf (b : Bits) (about : About) (t : Token) (f : Formula) : Type 0 where
   pub items : List Item
   pub read : IsReadAs (declared (sets_of about b) (bytes_of b.text.now t)) items

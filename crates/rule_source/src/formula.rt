@@ -150,7 +150,8 @@ fn are_named(sets: &[Name], names: &[String]) -> bool
     set.text == *name && are_named(others, more)
 }
 
-// Whether the items are sets of those names and one formula.
+// Whether the items are sets of those names and one formula. They are tested, since reading promises the items of some tokens that cover the text, and not
+// that a line of names has the tokens that it seems to have.
 fn are_one(items: &[Item], names: &[String]) -> bool
     ensures { OnTrue result (AreOne items.now (map (λ n. string_bytes n) names.now)) }
 {
