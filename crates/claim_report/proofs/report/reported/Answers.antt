@@ -9,4 +9,4 @@ returns-in-Answer c =
     let items = c.in_ok-items.items.items in
     subst (λ wish. IfOk c.answer_of.result (λ printed. Fulfils text wish (string_bytes printed))) (sym c.in-Answer.is)
     (IfOk-weaker c.answer_of.result _ _
-    (λ printed h. (items, c.in_ok-items.ensures, subst (λ l. Reported c.in-Answer.form l (string_bytes printed)) c.deref-in-Answer.ensures.value h)) c.answer_of.ensures)
+    (λ printed h. (items, c.in_ok-items.ensures.reads, subst (λ l. Reported c.in-Answer.form l (string_bytes printed)) c.deref-in-Answer.ensures.value h)) c.answer_of.ensures)
