@@ -122,7 +122,13 @@ fn picture_of_answer(
     ensures { IfOk result (λ all. picture_names all.items ≡ map (picture_name asked.entry.title.now) (if asked.entry.options.now.pictures then drawn subject.now answer.now else [])) }
 {
     match answer {
-        Answer::First(history) => picture_of(alloc, asked, subject.name(), subject.short(), history),
+        Answer::First(history) => picture_of(
+            alloc,
+            asked,
+            subject.name(),
+            subject.short(),
+            history,
+        ),
         Answer::Never | Answer::TooLarge(_, _) | Answer::Refused(_) => Ok(Vec::new(alloc)),
     }
 }
@@ -179,11 +185,7 @@ fn general_answers(alloc: Global, asked: Asked<'_, '_>) -> Result<Report, Stop>
 }
 
 // The answers to the claims of the file.
-fn claim_answers(
-    alloc: Global,
-    asked: Asked<'_, '_>,
-    claims: &[Claim<'_>],
-) -> Result<Report, Stop>
+fn claim_answers(alloc: Global, asked: Asked<'_, '_>, claims: &[Claim<'_>]) -> Result<Report, Stop>
     requires { All (Asks asked.source.now) claims.now }
     ensures { IfOk result (Tells asked.entry.file.now asked.entry.title.now asked.entry.source.now asked.entry.options.now (map of_claim claims.now)) }
 {

@@ -58,12 +58,7 @@ fn placed(alloc: Global, file: &str, text: &str, span: Span) -> Result<String, A
 }
 
 /// What stands behind an answer that is too large: where, or why. Fails for memory.
-pub fn ending(
-    alloc: Global,
-    file: &str,
-    text: &str,
-    answer: &Answer,
-) -> Result<String, AllocError>
+pub fn ending(alloc: Global, file: &str, text: &str, answer: &Answer) -> Result<String, AllocError>
     ensures { IfOk result (λ words. Ends file.now text.now answer.now (string_bytes words)) }
 {
     match answer {

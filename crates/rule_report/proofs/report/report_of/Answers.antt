@@ -5,10 +5,14 @@ pub returns : goal.returns
 returns c =
     let e = c.in_ok-source.ensures in
     IfOk-weaker c.report_of_source.result _ _
-    (λ report h. (c.in_ok-source.source, record {
-      file = e.file;
-      text_is = e.text;
-      names = e.names;
-      rule = record { bits = e.bits; patterns = e.patterns; limits = e.limits; lines = e.lines };
-      rows = e.rows;
-    }, h)) c.report_of_source.ensures
+    (λ report h. (
+      c.in_ok-source.source,
+      record {
+        file = e.file;
+        text_is = e.text;
+        names = e.names;
+        rule = record { bits = e.bits; patterns = e.patterns; limits = e.limits; lines = e.lines };
+        rows = e.rows;
+      },
+      h,
+    )) c.report_of_source.ensures
