@@ -1,4 +1,4 @@
--- How rows and reports go on; where a question gets too large.
+-- How rows and reports go on; what is found of some statements.
 pub mod ShownRowsLaws
 pub mod ReportedLaws
 pub mod NarrowingLaws

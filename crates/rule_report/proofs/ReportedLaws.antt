@@ -1,5 +1,5 @@
 -- How the report of a rule goes on by a question.
-use Rattle.std.proofs.Common.{◌≡◌, ℕ, zero, suc, ◌+◌, ◌<◌, Bool, true, false, All, List, [], ◌∷◌, ◌++◌, length, map, take, get_or, string_bytes, codes, if◌then◌else◌, refl, sym, ap, ap₂, subst, ◌∙◌, append_assoc, append-nil, add-one, arith}
+use Rattle.std.proofs.Common.{◌≡◌, ℕ, ◌+◌, ◌<◌, Bool, true, false, List, [], ◌∷◌, ◌++◌, length, map, take, get_or, string_bytes, codes, if◌then◌else◌, refl, sym, ap, ap₂, subst, ◌∙◌, append_assoc, append-nil, add-one, arith}
 use Rattle.std.specs.List.{flat_map}
 use Rattle.std.specs.Fmt.{decimal}
 use Rattle.std.proofs.lemmas.List.{map-append, map_more, take_more, flat_map_more}
@@ -13,7 +13,7 @@ use Rattle.rule_report.specs.declared.report.Report.{Report}
 use Rattle.rule_report.specs.declared.shown_rows.Picture.{Picture}
 use Rattle.rule_report.specs.declared.subject.Subject.{Subject}
 use Rattle.rule_report.specs.ShownRows.{picture_name}
-use Rattle.rule_report.specs.Reported.{Answers, Part, IsPart, Tells, Reports, drawn, front_pictures, front_words, general, given_pictures, of_claim, picture_names, question_of, questions, words_of}
+use Rattle.rule_report.specs.Reported.{Answers, Part, IsPart, Tells, Reports, drawn, front_pictures, front_words, general, given_pictures, of_claim, picture_names, question_of, words_of}
 
 -- what there is of two lists, if anything
 wanted-append : {X : Type 0} (b : Bool) (xs ys : List X) → (if b then xs else []) ++ (if b then ys else []) ≡ (if b then (xs ++ ys) else [])

@@ -2,14 +2,14 @@
 use Rattle.std.proofs.Common.{◌≡◌, ℕ, zero, suc, ◌+◌, ◌-◌, ◌<◌, Some, List, [], ◌∷◌, ◌++◌, length, map, take, get_or, option_map, slice_get, Vec, refl, sym, ap, ◌∙◌, append_assoc, append-nil, add-one, arith}
 use Rattle.std.specs.Global.{Global}
 use Rattle.std.proofs.lemmas.List.{length-append, length-map, map-append, take_more, get_or-map, length-take-le}
-use Rattle.std.proofs.lemmas.Option.{slice_get-map, slice_get-get_or}
+use Rattle.std.proofs.lemmas.Option.{slice_get-map}
 use Rattle.words.specs.Words.{Word}
 use Rattle.display.specs.Marks.{shown}
 use Rattle.diagram.specs.Rows.{IsLastRow}
 use Rattle.diagram.specs.declared.history.History.{History}
 use Rattle.rules.specs.Property.{after}
 use Rattle.rules.specs.declared.rule.Rule.{Rule}
-use Rattle.rule_report.specs.ShownRows.{row_after, rows_from, rows_of, rows_shown, step_line, Follows}
+use Rattle.rule_report.specs.ShownRows.{row_after, rows_from, rows_shown, step_line, Follows}
 
 rows_from-length : (r : Rule) (w : Word) (n : ℕ) → length (rows_from r w n) ≡ suc n
 rows_from-length r w zero = refl

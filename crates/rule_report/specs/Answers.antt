@@ -1,5 +1,5 @@
 -- What an answer says of the rows of a rule, however long.
-use Rattle.std.specs.Prelude.{ℕ, suc, ◌-◌, ◌^◌, Option, unwrap_or}
+use Rattle.std.specs.Prelude.{ℕ, suc, ◌-◌, ◌^◌, unwrap_or}
 use Rattle.words.specs.Words.{Word, Columns}
 use Rattle.claims.specs.Encoded.{sets_needed, Refused as IsRefused}
 use Rattle.rows.specs.RowClaims.{First as FirstRow}

@@ -1,15 +1,17 @@
 -- Where in a rule file a question gets too large.
-use Rattle.std.specs.Prelude.{◌≡◌, ◌≢◌, ◌⊎◌, ℕ, suc, ◌+◌, ◌<◌, ◌≤◌, Bool, true, false, Option, None, Some, List, [], length, take, slice_get}
+use Rattle.std.specs.Prelude.{◌≡◌, ◌≢◌, ◌⊎◌, ℕ, suc, ◌+◌, ◌<◌, ◌≤◌, Bool, true, false, Option, None, Some, Result, Ok, Err, MatchResult, List, [], length, take, slice_get}
 use Rattle.words.specs.Words.{Word, Columns}
 use Rattle.claims.specs.Encoded.{sets_needed, Refused}
 use Rattle.claims.specs.declared.encode.Refusal.{Refusal}
-use Rattle.claims.specs.declared.encode.Refusal.TheVariants.{OutOfMemory}
+use Rattle.claims.specs.declared.encode.Refusal.TheVariants.{TooManyBytes, TooManySets, OutOfMemory}
 use Rattle.rows.specs.RowClaims.{First as FirstRow}
 use Rattle.rules.specs.Property.{Has, claim_of}
 use Rattle.rules.specs.declared.rule.Rule.{Rule}
 use Rattle.rules.specs.declared.property.Property.{Property}
 use Rattle.rules.specs.declared.property.Property.TheVariants.{Allowed, Stuck, Left}
-use Rattle.rule_check.specs.Told.{TooMany}
+use Rattle.rule_check.specs.Told.{Told, TooMany}
+use Rattle.rule_check.specs.declared.verdict.Verdict.{Verdict}
+use Rattle.rule_check.specs.declared.verdict.Verdict.TheVariants.{Never, First, TooLarge}
 use Rattle.rule_file.specs.declared.tree.Line.{Line}
 use Rattle.rule_file.specs.declared.tree.Statement.{Statement}
 use Rattle.rule_file.specs.declared.tree.Statement.TheVariants as statement
@@ -27,6 +29,19 @@ AsksFor b subject.SomeAllowed p = p ≡ Allowed
 AsksFor b subject.NoneStuck p = p ≡ Stuck
 AsksFor b subject.AllowedKept p = p ≡ Left
 AsksFor b (subject.Claim how name statement) p = Denies b statement.now p
+
+-- what is found of the property with at most n classes
+abbrev pub IsFound : ℕ → Result Verdict Refusal → Rule → Property → Type 0
+IsFound n found r p = MatchResult found (Told r p n) (Refused (suc r.bits) (claim_of r p))
+
+-- whether it is that the property's claim is too large; it is not found out for want of memory
+abbrev pub SaysLarge : Result Verdict Refusal → Bool → Type 0
+SaysLarge (Ok Never) large = large ≡ false
+SaysLarge (Ok (First w)) large = large ≡ false
+SaysLarge (Ok (TooLarge n)) large = large ≡ true
+SaysLarge (Err (TooManyBytes n)) large = large ≡ true
+SaysLarge (Err (TooManySets n)) large = large ≡ true
+SaysLarge (Err OutOfMemory) large = ⊥
 
 -- n classes do not suffice for the claim of the property, or it takes too many bytes or sets
 abbrev pub IsLarge : ℕ → Rule → Property → Type 0

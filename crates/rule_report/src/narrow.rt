@@ -1,7 +1,7 @@
 // Where in a rule file too much is told apart: the first statement with which, behind those before it, the claim is too large for so many classes. Where
 // a claim of the file is too large before any of them, it is that claim's own statement.
 ghost use Rattle.std.specs.Prelude.{◌≡◌, IfOk, MatchBool, is_some};
-ghost use Rattle.rule_report.specs.Narrowing.{AsksFor, IsAnswered, IsLarge, IsNarrowest, OfLines, is_claim, is_of_rule};
+ghost use Rattle.rule_report.specs.Narrowing.{AsksFor, IsAnswered, IsFound, IsLarge, IsNarrowest, OfLines, SaysLarge, is_claim, is_of_rule};
 
 use crate::stop::Stop;
 use crate::subject::Subject;
@@ -28,6 +28,35 @@ fn property(alloc: Global, source: &Source<'_>, subject: &Subject<'_>) -> Result
     }
 }
 
+// What is found of the subject's question where the rule has these statements alone.
+fn verdict_of(
+    alloc: Global,
+    source: &Source<'_>,
+    subject: &Subject<'_>,
+    lines: &[Line],
+    most: u32,
+) -> Result<Result<Verdict, Refusal>, Stop>
+    ensures { IfOk result (λ found. OfLines (IsFound most found) source.now.bits subject.now lines.now) }
+{
+    let rule = rule_of(alloc, &source.bits, lines)?;
+    let property = property(alloc, source, subject)?;
+    let question = Question::new(alloc, &rule, property)?;
+    let verdict = first_row(alloc, &question, most);
+    Ok(verdict)
+}
+
+// Whether what is found is that it is too large.
+fn says_large(found: Result<Verdict, Refusal>) -> Result<bool, Stop>
+    ensures { IfOk result (SaysLarge found) }
+{
+    match found {
+        Ok(Verdict::TooLarge(_)) => Ok(true),
+        Ok(Verdict::Never | Verdict::First(_)) => Ok(false),
+        Err(Refusal::OutOfMemory) => Err(Stop::Memory),
+        Err(Refusal::TooManyBytes(_) | Refusal::TooManySets(_)) => Ok(true),
+    }
+}
+
 // Whether the claim is too large where the rule has these statements alone. If it is not, it is answered.
 fn is_large(
     alloc: Global,
@@ -38,15 +67,9 @@ fn is_large(
 ) -> Result<bool, Stop>
     ensures { IfOk result (λ large. MatchBool large (OfLines (IsLarge most) source.now.bits subject.now lines.now) (OfLines IsAnswered source.now.bits subject.now lines.now)) }
 {
-    let rule = rule_of(alloc, &source.bits, lines)?;
-    let property = property(alloc, source, subject)?;
-    let question = Question::new(alloc, &rule, property)?;
-    match first_row(alloc, &question, most) {
-        Ok(Verdict::TooLarge(_)) => Ok(true),
-        Ok(Verdict::Never | Verdict::First(_)) => Ok(false),
-        Err(Refusal::OutOfMemory) => Err(Stop::Memory),
-        Err(_) => Ok(true),
-    }
+    let found = verdict_of(alloc, source, subject, lines, most)?;
+    let large = says_large(found)?;
+    Ok(large)
 }
 
 // Where the subject itself stands in the file.

@@ -1,5 +1,5 @@
-use Rattle.std.proofs.Common.{ap, sym, ◌∙◌, get_or, arith}
-use Rattle.rule_report.proofs.ReportedLaws.{tells_more, tells_none}
+use Rattle.std.proofs.Common.{arith}
+use Rattle.rule_report.proofs.ReportedLaws.{tells_more}
 use Rattle.rule_report.proofs.report.claim_answers.Goals as goal
 
 pub loop-claim-preserved : goal.loop-claim-preserved
