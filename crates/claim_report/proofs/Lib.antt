@@ -1,2 +1,3 @@
 -- The names that a text declares.
 pub mod DeclaredLaws
+pub mod PlacedLaws
