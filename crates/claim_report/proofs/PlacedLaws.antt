@@ -27,6 +27,8 @@ pub begins : (file text : List ℕ) (span : Span) (shown : Option (Bor (List ℕ
     words ≡ printed file (line_of text span.start) (column_of text span.start) message (option_map_or (λ t. excerpt_of t.now (column_of text span.start)) shown []) →
     IsBeginning file text span words
 begins file text span None words t e = ([], inr (t, refl), e)
-begins file text span (Some line) words t e =
-    (excerpt_of (text_of_line text span.start) (column_of text span.start), inl (t.1, refl),
-    e ∙ ap (λ l. printed file (line_of text span.start) (column_of text span.start) message (excerpt_of l (column_of text span.start))) t.0)
+begins file text span (Some line) words t e = (
+  excerpt_of (text_of_line text span.start) (column_of text span.start),
+  inl (t.1, refl),
+  e ∙ ap (λ l. printed file (line_of text span.start) (column_of text span.start) message (excerpt_of l (column_of text span.start))) t.0,
+)

@@ -58,7 +58,9 @@ pub fn put(out: &mut String, expr: &Expr, indent: usize) -> Result<(), AllocErro
         Expr::Binary(binary, left, right, _) => {
             put_operand(out, left, left_of(*binary), indent)?;
             put_sign(out, *binary, indent)?;
-            let inner = indent.saturating_add(sign_word(*binary).1.len()).saturating_add(1);
+            let inner = indent
+                .saturating_add(sign_word(*binary).1.len())
+                .saturating_add(1);
             put_operand(out, right, right_of(*binary), inner)
         }
         Expr::Bound(quantifier, sort, names, body, _) => {
