@@ -1,7 +1,7 @@
 -- The words of an answer.
-use Rattle.std.specs.Prelude.{◌≡◌, ℕ, ◌+◌, ◌≤◌, ◌==◌, None, Some, List, [], ◌++◌, length, take, count_by, codes}
+use Rattle.std.specs.Prelude.{◌≡◌, ℕ, None, Some, List, [], ◌++◌, codes}
 use Rattle.std.specs.Fmt.{decimal}
-use Rattle.trees.specs.Position.{column_from}
+use Rattle.trees.specs.Position.{line_of, column_of}
 use Rattle.trees.specs.declared.position.Span.{Span}
 use Rattle.rule_report.specs.declared.answer.Answer.{Answer}
 use Rattle.rule_report.specs.declared.answer.Answer.TheVariants.{Never, First, TooLarge, Refused}
@@ -22,8 +22,8 @@ pub record PlacedAt (file text : List ℕ) (span : Span) (words : List ℕ) : Ty
   pub column : ℕ
   pub shown : List ℕ
   pub words_are : words ≡ file ++ (codes ":" ++ (decimal line ++ (codes ":" ++ (decimal column ++ (codes "\n" ++ shown)))))
-  pub line_is : span.start ≤ length text → line ≡ count_by (λ b. b == 10) (take span.start text) + 1
-  pub column_is : span.start ≤ length text → column ≡ column_from 1 (take span.start text)
+  pub line_is : line ≡ line_of text span.start
+  pub column_is : column ≡ column_of text span.start
 
 -- what stands behind: where it is too large; of a refusal, in words, why
 abbrev pub Ends : List ℕ → List ℕ → Answer → List ℕ → Type 0
