@@ -21,8 +21,8 @@ returns-in-Answer c =
     (IfOk-weaker c.answer_of.result _ _
     (λ printed h. (items, c.in_ok-items.ensures.reads, subst (λ l. Reported file text c.in-Answer.form l (string_bytes printed)) c.deref-in-Answer.ensures.value h)) c.answer_of.ensures)
 
-pub returns-in-Automaton : goal.returns-in-Automaton
-returns-in-Automaton c =
+pub returns : goal.returns
+returns c =
     let file = c.args.source.file.now in
     let text = c.args.source.text.now in
     let items = c.in_ok-items.items.items in
