@@ -2,7 +2,7 @@
 use Rattle.std.specs.Prelude.{◌≡◌, ℕ, ◌+◌, ◌*◌, ◌≤◌, List, ◌++◌, map, string_bytes, codes}
 use Rattle.std.specs.Fmt.{decimal}
 use Rattle.display.specs.Hex.{hex_of}
-use Rattle.room.specs.Floor.{floor_words}
+use Rattle.workspace.specs.Floor.{floor_words}
 use Rattle.trees.specs.declared.tree.Item.{Item}
 use Rattle.resolve.specs.Asks.{declared}
 use Rattle.solve.specs.declared.answer.Answer.{Answer}

@@ -5,7 +5,7 @@ use Rattle.words.specs.Order.{Less, shorter}
 use Rattle.words.proofs.OrderLaws.{leq_less}
 use Rattle.claims.specs.Claims.{C, Of}
 use Rattle.claims.specs.Rows.{IsClaim}
-use Rattle.room.specs.Floor.{floor_words}
+use Rattle.workspace.specs.Floor.{floor_words}
 use Rattle.lengths.specs.Answer.{First}
 use Rattle.lengths.specs.Says.{JudgedSays, JudgedPost}
 use Rattle.lengths.specs.declared.judged.Judged.{Judged}

@@ -1,12 +1,12 @@
 // A claim's first word, as a value of its own.
 ghost use Rattle.std.specs.Prelude.{◌+◌, ◌*◌, ◌≤◌, IfOk};
 ghost use Rattle.claims.specs.Rows.{IsClaim};
-ghost use Rattle.room.specs.Floor.{floor_words};
+ghost use Rattle.workspace.specs.Floor.{floor_words};
 ghost use Rattle.first_word.specs.Finding.{Finds};
 
 use lengths::judge::judge;
 use lengths::judged::Judged;
-use room::floor::floor;
+use workspace::floor::floor;
 use std::alloc::{AllocError, Global};
 
 /// Of which words a claim holds: of none; of this one first, a column of 32 bits for each place; or it was not found out, since more classes would have to be told apart than are allowed.

@@ -11,7 +11,7 @@ use lengths::judge::judge;
 use lengths::judged::Judged;
 use line_format::fault::Fault;
 use line_format::line::{read_bytes, read_fields, read_number};
-use room::floor::floor;
+use workspace::floor::floor;
 use std::alloc::Global;
 use std::fmt;
 use std::io::{BufRead, BufReader};

@@ -5,10 +5,10 @@ ghost use Rattle.lengths.specs.Says.{JudgedPost};
 use crate::answer::answer;
 use crate::judged::Judged;
 use claims::claim::claim_sets;
-use room::cut::{Work, cut_work};
-use room::floor::too_few;
-use working::wanted::Wanted;
-use working::working::work_out;
+use workspace::cut::{Work, cut_work};
+use workspace::floor::too_few;
+use construct::wanted::Wanted;
+use construct::construct::work_out;
 
 // Whether the claim holds of all words, of none, or of which first; `most` is the largest number of classes that may be told apart at a part.
 // Nothing is asked of the arguments: too little work memory, bytes that are no claim and a claim that does not fit are answers. Work memory is free, out is written only where

@@ -10,7 +10,7 @@ use Rattle.automata.proofs.Counting.{pigeon}
 use Rattle.automata.proofs.Explored.{explored_table}
 use Rattle.automata.proofs.Exploring.{exploring_end}
 use Rattle.automata.proofs.Tables.{run_below, run_follows, run_same, table_same, collapsed_same, table_exact, alike_left}
-use Rattle.firsts.specs.Search.{Sought}
+use Rattle.shortest.specs.Search.{Sought}
 use Rattle.minimal.specs.Minimal.{Smallest}
 
 -- a table whose classes are told apart has no more classes than any table of the same language: the words by which its classes are found lead apart there

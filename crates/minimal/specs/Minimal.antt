@@ -6,7 +6,7 @@ use Rattle.claims.specs.Sizes.{Fits}
 use Rattle.claims.specs.Rows.{Claim, IsClaim}
 use Rattle.automata.specs.Search.{Ranked}
 use Rattle.automata.specs.Tables.{Table, Collapsed}
-use Rattle.room.specs.Floor.{floor_words}
+use Rattle.workspace.specs.Floor.{floor_words}
 use Rattle.minimal.specs.View.{states, leads, accepts}
 use Rattle.minimal.specs.declared.automaton.Automaton.{Automaton}
 use Rattle.minimal.specs.declared.refusal.Refusal.{Refusal}

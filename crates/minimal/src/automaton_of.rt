@@ -10,13 +10,13 @@ use crate::automaton::Automaton;
 use crate::in_order::in_order;
 use crate::refusal::Refusal;
 use claims::claim::claim_sets;
-use room::cut::{Slot, Work, cut_slot, cut_work};
-use room::floor::floor;
-use room::largest::largest;
+use workspace::cut::{Slot, Work, cut_slot, cut_work};
+use workspace::floor::floor;
+use workspace::largest::largest;
 use std::alloc::{AllocError, Global};
 use tables::cells::{Table, WordTable};
-use working::wanted::Wanted;
-use working::working::work_out;
+use construct::wanted::Wanted;
+use construct::construct::work_out;
 
 // A table of m classes in lent memory, over words of k sets.
 fn table<'x>(k: u32, rows: &'x [u32], accept: &'x [u32], m: usize) -> WordTable<'x>

@@ -6,9 +6,9 @@ ghost use Rattle.tables.specs.Cells.{entry, accepts};
 ghost use Rattle.tables.specs.View.{moves, accepting};
 ghost use Rattle.minimal.specs.Minimal.{Smallest};
 
-use firsts::search::{Found, search};
-use joining::quotient::quotient;
-use room::cut::{Scratch, cut_scratch};
+use shortest::search::{Found, search};
+use minimize::quotient::quotient;
+use workspace::cut::{Scratch, cut_scratch};
 use tables::cells::{Table, WordTable};
 
 // Clears the acceptance of the first `classes` classes.

@@ -1,18 +1,25 @@
--- What the product of two tables is: a class for each pair of classes that a word leads to.
-use Rattle.std.specs.Prelude.{◌≡◌, ℕ, ◌<◌, ◌≤◌, ◌&&◌, List, slice_index}
-use Rattle.automata.specs.Product.{Pair, pair, step_pair}
-use Rattle.automata.specs.Search.{Explored}
-use Rattle.tables.specs.Cells.{entry, accepts}
+-- The product of two tables: a class for each pair of classes that a word leads to.
+use Rattle.std.specs.Prelude.{ℕ, ◌+◌, Bool, ◌&&◌}
+use Rattle.automata.specs.Product.{Pair, pair, left, right, step_pair}
+use Rattle.worklist.specs.Search.{Automaton, Memory}
+use Rattle.product.specs.declared.memory.Pairs.{Pairs}
 use Rattle.tables.specs.declared.cells.WordTable.{WordTable}
-use Rattle.tables.specs.Numbering.{pair_at}
+use Rattle.tables.specs.Numbering.{pair_at, Numbered}
 use Rattle.tables.specs.View.{moves, accepting}
 
--- where a column leads from a pair of classes
-abbrev pub pair_moves : WordTable → WordTable → Pair → ℕ → Pair
-pair_moves a b = step_pair (moves a.table) (moves b.table)
+-- whether both classes of a pair accept
+abbrev pub both_accept : WordTable → WordTable → Pair → Bool
+both_accept a b p = accepting a.table (left p) && accepting b.table (right p)
 
--- the product of the tables a and b, with m classes, stands in `rows` and `accept`: class i is the pair with number i
-pub record Paired (most : ℕ) (a b : WordTable) (rows accept lefts rights : List ℕ) (m : ℕ) : Type 0 where
-  pub few : m ≤ most
-  pub explored : Explored a.sets (pair_moves a b) (pair 0 0) m (pair_at lefts rights) (entry rows a.table.width)
-  pub accepted : (i : ℕ) → i < m → accepts accept i ≡ (accepting a.table (slice_index lefts i) && accepting b.table (slice_index rights i))
+-- the pairs of classes of two tables, each going its own way
+abbrev pub both : WordTable → WordTable → Automaton Pair
+both a b = record { sets = a.sets; start = pair 0 0; step = step_pair (moves a.table) (moves b.table); accepts = both_accept a b }
+
+-- a memory of pairs: those that are found, with their numbers
+abbrev pub pairs_of : Pairs → Memory Pair
+pairs_of f = record {
+  automaton = both f.left f.right;
+  room = f.most + 1;
+  at = pair_at f.lefts.now f.rights.now;
+  Holds = Numbered f.left.table.classes f.right.table.classes f.lefts.now f.rights.now f.index.now;
+}

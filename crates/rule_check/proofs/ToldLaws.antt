@@ -5,7 +5,7 @@ use Rattle.claims.specs.Claims.{Holds, not1, within as lies_within}
 use Rattle.formulas.specs.declared.formula.Formula.{Formula}
 use Rattle.claims.specs.Rows.{row}
 use Rattle.claims.specs.Encoded.{sets_needed}
-use Rattle.room.specs.Floor.{floor_words}
+use Rattle.workspace.specs.Floor.{floor_words}
 use Rattle.rows.specs.RowClaims.{same_number, marked, Tells, First as FirstRow}
 use Rattle.rows.specs.Faults.{allowed_part, fault_part, RuleClaims}
 use Rattle.rows.proofs.Telling.{tells as tells_row}

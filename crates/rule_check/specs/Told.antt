@@ -5,7 +5,7 @@ use Rattle.claims.specs.Claims.{C, Of}
 use Rattle.claims.specs.Sizes.{Fits}
 use Rattle.claims.specs.Rows.{row}
 use Rattle.claims.specs.Encoded.{sets_needed}
-use Rattle.room.specs.Floor.{floor_words}
+use Rattle.workspace.specs.Floor.{floor_words}
 use Rattle.rows.specs.RowClaims.{marked, First as FirstRow}
 use Rattle.rules.specs.Property.{Has, claim_of}
 use Rattle.rules.specs.declared.rule.Rule.{Rule}

@@ -3,7 +3,7 @@ ghost use Rattle.std.specs.Prelude.{ℕ, suc, ◌+◌, ◌*◌, ◌<◌, ◌≤�
 ghost use Rattle.claims.specs.Claims.{C};
 ghost use Rattle.claims.specs.Rows.{Claim, IsClaim};
 ghost use Rattle.claims.specs.Encoded.{Refused};
-ghost use Rattle.room.specs.Floor.{floor_words};
+ghost use Rattle.workspace.specs.Floor.{floor_words};
 ghost use Rattle.rules.specs.Property.{claim_of};
 ghost use Rattle.rule_check.specs.Told.{Found as IsFound, Told};
 
@@ -11,7 +11,7 @@ use crate::modules::modules;
 use crate::verdict::Verdict;
 use claims::encode::{Refusal, encode};
 use first_word::first_word::{Found, first_word};
-use room::largest::largest;
+use workspace::largest::largest;
 use rules::property::claim_of;
 use rules::question::Question;
 use std::alloc::{AllocError, Global};

@@ -1,7 +1,7 @@
 -- Which formulas are large, and which are not.
 use Rattle.std.proofs.Common.{◌≡◌, ℕ, ◌+◌, ◌*◌, ◌<◌, ◌≤◌, ◌⊎◌, ◌↔◌, Bool, true, false, IsTrue, List, [], ◌∷◌, length, inl, inr, sym, subst, ap, ◌∙◌, arith}
 use mathlib.Core.Bool.{false≢true}
-use Rattle.room.specs.Floor.{floor_words}
+use Rattle.workspace.specs.Floor.{floor_words}
 use Rattle.claims.proofs.ClaimLaws.{claim_bounds}
 use Rattle.claims.specs.declared.encode.Refusal.TheVariants.{TooManyBytes, TooManySets}
 use Rattle.formulas.specs.declared.name.Name.{Name}

@@ -1,13 +1,13 @@
 // The answer to a text that is read.
 ghost use Rattle.std.specs.Prelude.{◌+◌, ◌*◌, ◌≤◌, IfOk};
-ghost use Rattle.room.specs.Floor.{floor_words};
+ghost use Rattle.workspace.specs.Floor.{floor_words};
 ghost use Rattle.solve.specs.Answers.{Answers};
 
 use crate::first::first_row;
 use crate::question::{Question, question_of};
 use crate::stop::Stop;
 use first_word::first_word::Found;
-use room::largest::largest;
+use workspace::largest::largest;
 use std::alloc::Global;
 use trees::tree::Item;
 

@@ -4,7 +4,7 @@ ghost use Rattle.claims.specs.Rows.{IsClaim};
 ghost use Rattle.formulas.specs.declared.name.Name.{Name};
 ghost use Rattle.formulas.specs.declared.formula.Formula.{Formula};
 ghost use Rattle.formula_claims.specs.Claimed.{Claimed};
-ghost use Rattle.room.specs.Floor.{floor_words};
+ghost use Rattle.workspace.specs.Floor.{floor_words};
 ghost use Rattle.solve.specs.Telling.{Tells};
 
 use first_word::first_word::{Found, first_word};

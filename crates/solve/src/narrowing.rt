@@ -13,7 +13,7 @@ use formulas::free::free_names;
 use formulas::name::Name;
 use resolve::asked::{Asked, ask};
 use resolve::narrow::{Part, parts, statements};
-use room::largest::fits;
+use workspace::largest::fits;
 use std::alloc::{AllocError, Global};
 use trees::position::Span;
 use trees::tree::Item;

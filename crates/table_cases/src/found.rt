@@ -3,9 +3,9 @@ ghost use Rattle.std.specs.Prelude.{ℕ, ◌<◌, ◌≤◌, length, slice_index
 
 use crate::checked::{is_table, table};
 use crate::listing::{Listed, first_of};
-use firsts::first::first;
-use firsts::search::{Found, search};
-use firsts::spell::{word_length, write_word};
+use shortest::first::first;
+use shortest::search::{Found, search};
+use shortest::spell::{word_length, write_word};
 use std::io;
 use tables::cells::Table;
 

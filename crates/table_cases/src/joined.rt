@@ -1,8 +1,8 @@
 // Classes that are alike joined.
 use crate::checked::{is_table, table};
 use crate::listing::{Listed, Listing, first_of};
-use joining::join::join;
-use joining::quotient::quotient;
+use minimize::join::join;
+use minimize::quotient::quotient;
 use std::io;
 
 // Classes 1 and 2 accept and lead to the same classes: the parts are 0, 1 and 1.

@@ -3,7 +3,7 @@ ghost use Rattle.std.specs.Prelude.{◌≤◌};
 
 use crate::listing::Listing;
 use claims::atom::Atom;
-use leaves::leaf::leaf;
+use atoms::leaf::leaf;
 use live::dead::dead;
 use std::io;
 use tables::cells::{Table, WordTable};

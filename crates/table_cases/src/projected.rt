@@ -5,7 +5,7 @@ use crate::checked::{is_table, table};
 use crate::listing::{Listed, Listing, first_of};
 use live::beyond::beyond;
 use std::io;
-use subsets::projection::subsets;
+use project::projection::subsets;
 use words::bits::Set;
 
 // The classes that are completed: 1 for each.

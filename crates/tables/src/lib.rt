@@ -5,3 +5,4 @@ pub mod cells;
 pub mod complement;
 pub mod copy;
 pub mod numbering;
+pub mod sheet;

@@ -1,6 +1,6 @@
 use Rattle.std.proofs.Common.{◌≡◌, ◌*◌, ◌≤◌, length, sym, subst, arith}
 use Rattle.std.proofs.lemmas.Grind.{common_steps}
-use Rattle.room.specs.Floor.{floor_words}
+use Rattle.workspace.specs.Floor.{floor_words}
 use Rattle.lengths.specs.Answer.{First}
 use Rattle.first_word.proofs.FoundLaws.{first_empty, answered}
 use Rattle.first_word.proofs.first_word.first_word.Goals as goal

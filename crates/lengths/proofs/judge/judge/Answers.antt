@@ -2,10 +2,10 @@ use Rattle.std.proofs.Common.{◌≡◌, ◌*◌, ◌%◌, ◌^◌, sym, subst, 
 use Rattle.std.proofs.lemmas.Nat.{one_shl}
 use Rattle.claims.specs.Sizes.{Fits}
 use Rattle.lengths.specs.Answer.{Answered}
-use Rattle.working.specs.declared.wanted.Wanted.TheVariants.{Any}
-use Rattle.working.specs.Working.{Stands}
+use Rattle.construct.specs.declared.wanted.Wanted.TheVariants.{Any}
+use Rattle.construct.specs.Working.{Stands}
 use Rattle.lengths.proofs.JudgeLaws.{claim_few, claim_front, enough, judged_answer, judged_few, judged_many, judged_no_claim, lent_whole, work_enough}
-use Rattle.working.proofs.WorkingLaws.{columns_few, fits_none}
+use Rattle.construct.proofs.WorkingLaws.{columns_few, fits_none}
 use Rattle.lengths.proofs.judge.judge.Goals as goal
 
 pub returns-then-too_few : goal.returns-then-too_few

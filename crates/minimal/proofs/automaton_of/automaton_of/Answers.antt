@@ -1,10 +1,10 @@
 use Rattle.std.proofs.Common.{◌≡◌, ◌+◌, ◌*◌, ◌%◌, ◌^◌, ◌≤◌, ◌<◌, length, ◌∙◌, subst, arith}
 use Rattle.std.proofs.lemmas.Nat.{one_shl}
-use Rattle.room.specs.Floor.{floor_words}
+use Rattle.workspace.specs.Floor.{floor_words}
 use Rattle.lengths.proofs.JudgeLaws.{claim_few, claim_front, lent_whole, work_enough}
-use Rattle.working.specs.declared.wanted.Wanted.TheVariants.{Exact}
-use Rattle.working.specs.Working.{Stands}
-use Rattle.working.proofs.WorkingLaws.{columns_few, fits_none}
+use Rattle.construct.specs.declared.wanted.Wanted.TheVariants.{Exact}
+use Rattle.construct.specs.Working.{Stands}
+use Rattle.construct.proofs.WorkingLaws.{columns_few, fits_none}
 use Rattle.minimal.specs.Minimal.{Minimal}
 use Rattle.minimal.proofs.MadeLaws.{made}
 use Rattle.minimal.proofs.TableLaws.{worked_table}

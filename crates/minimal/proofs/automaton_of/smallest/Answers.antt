@@ -2,7 +2,7 @@ use Rattle.std.proofs.Common.{sym, ap, ◌∙◌, subst, arith}
 use Rattle.tables.specs.Cells.{entry, accepts}
 use Rattle.minimal.specs.Minimal.{Smallest}
 use Rattle.minimal.specs.View.{leads, accepts as s_accepts}
-use Rattle.working.proofs.WorkingLaws.{columns_few}
+use Rattle.construct.proofs.WorkingLaws.{columns_few}
 use Rattle.minimal.proofs.OrderLaws.{smallest_same}
 use Rattle.minimal.proofs.automaton_of.smallest.Goals as goal
 

@@ -1,7 +1,7 @@
 use Rattle.std.proofs.Common.{◌≡◌, ℕ, ◌^◌, ◌<◌, ◌==◌, true, get_or, sym, ap, ◌∙◌, arith}
 use mathlib.Core.Bool.{false≢true}
 use Rattle.tables.specs.Cells.{entry, accepts}
-use Rattle.working.proofs.WorkingLaws.{columns_few}
+use Rattle.construct.proofs.WorkingLaws.{columns_few}
 use Rattle.minimal.proofs.OrderLaws.{smallest, written_below}
 use Rattle.minimal.proofs.in_order.in_order.Goals as goal
 

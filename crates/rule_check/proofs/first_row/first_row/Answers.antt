@@ -2,7 +2,7 @@ use Rattle.std.proofs.Common.{◌≡◌, ℕ, suc, ◌+◌, ◌*◌, ◌<◌, �
 use Rattle.claims.specs.Claims.{C}
 use Rattle.claims.specs.Rows.{row, Claim}
 use Rattle.claims.specs.Encoded.{sets_needed}
-use Rattle.room.specs.Floor.{floor_words}
+use Rattle.workspace.specs.Floor.{floor_words}
 use Rattle.rules.specs.Property.{claim_of}
 use Rattle.rule_check.proofs.ToldLaws.{told}
 use Rattle.rule_check.proofs.first_row.first_row.Goals as goal

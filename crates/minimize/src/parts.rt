@@ -1,0 +1,90 @@
+// Partitions of the classes of a table: by acceptance, and split by where one column leads.
+ghost use Rattle.std.specs.Prelude.{◌≡◌, ℕ, ◌^◌, ◌<◌, ◌≤◌, length, slice_index};
+ghost use Rattle.automata.specs.Product.{pair};
+ghost use Rattle.tables.specs.Cells.{accepts, entry};
+ghost use Rattle.tables.specs.View.{moves, accepting};
+ghost use Rattle.minimize.specs.Pairs.{Room};
+ghost use Rattle.minimize.specs.Parts.{Parted};
+
+use crate::pairs::intern;
+use tables::cells::{Class, Table};
+
+// The first partition: the classes that accept, and those that do not. Class 0 is in part 0.
+// Invariant: a class before q is in part 0 if it accepts as class 0 does and else in part 1, and firsts has the first class of each part that has one.
+pub fn by_acceptance(t: Table, cls: &mut [u32], firsts: &mut [u32]) -> usize
+    requires some { 0 < t.classes }
+    requires few { t.classes < 2 ^ 32 }
+    requires room { (t.classes ≤ length cls.old) × (t.classes ≤ length firsts.old) }
+    ensures { Parted t.entry.classes (accepting t.entry) (λ q. slice_index cls.new q) (λ i. slice_index firsts.new i) result }
+{
+    let start = t.accepts(Class(0));
+    firsts[0] = 0;
+    let mut count = 1;
+    for q in 0..t.classes {
+        if t.accepts(Class(q as u32)) == start {
+            cls[q] = 0;
+        } else {
+            cls[q] = 1;
+            if count == 1 {
+                firsts[1] = q as u32;
+                count = 2;
+            }
+        }
+    }
+    count
+}
+
+// Splits the parts of `cur` by one column: classes stay together if they were in one part and the column leads them into one part of `cls`.
+// The new number of a class is the number of its pair (its part in cur, the part in cls to which the column leads), the pairs numbered in the order of the classes.
+// Invariant: the classes before q have the numbers of their pairs, the others their old parts. One pass over the classes, a constant number of steps each.
+// Scratch: lefts and rights a word for each class, index a word for each pair of classes.
+pub fn renumber(
+    t: Table,
+    column: u32,
+    cls: &[u32],
+    cur: &mut [u32],
+    firsts: &mut [u32],
+    lefts: &mut [u32],
+    rights: &mut [u32],
+    index: &mut [u32],
+) -> usize
+    requires column { column < t.width }
+    requires few { t.classes < 2 ^ 32 }
+    requires parts { (t.classes ≤ length cls.now) × (t.classes ≤ length cur.old) × (t.classes ≤ length firsts.old) }
+    requires room { Room t.classes lefts.old rights.old index.old }
+    requires cls_below { (q : ℕ) → q < t.classes → slice_index cls.now q < t.classes }
+    requires cur_below { (q : ℕ) → q < t.classes → slice_index cur.old q < t.classes }
+    ensures { Parted t.entry.classes
+        (λ q. pair (slice_index cur.old q) (slice_index cls.now (moves t.entry q column)))
+        (λ q. slice_index cur.new q)
+        (λ i. slice_index firsts.new i)
+        result }
+{
+    let mut count = 0;
+    for q in 0..t.classes {
+        let to = t.next(Class(q as u32), column);
+        let i = intern(
+            lefts,
+            rights,
+            index,
+            t.classes,
+            count,
+            cur[q],
+            cls[to.0 as usize],
+        );
+        cur[q] = i;
+        if i as usize == count {
+            firsts[count] = q as u32;
+            count += 1;
+        }
+    }
+    count
+}
+
+// Copies a partition of the first n classes.
+pub fn copy(from: &[u32], n: usize, to: &mut [u32])
+    requires { (n ≤ length from.now) × (n ≤ length to.old) }
+    ensures { (q : ℕ) → q < n → slice_index to.new q ≡ slice_index from.now q }
+{
+    to[..n].copy_from_slice(&from[..n]);
+}

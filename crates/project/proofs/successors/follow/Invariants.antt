@@ -1,0 +1,8 @@
+use Rattle.tables.specs.Cells.{entry}
+use Rattle.live.specs.Dead.{lives}
+use Rattle.project.specs.Successors.{Leads}
+use Rattle.project.proofs.SuccessorsLaws.{Followed}
+use Rattle.project.proofs.successors.follow.Given as goal
+
+abbrev pub invariant-loop-z : goal.invariant-loop-z
+invariant-loop-z l = Followed (Leads (entry l.t.rows.now l.t.width) (lives l.t.classes l.dead) l.a l.b) l.w l.i l.to l.initial.sets l.sets l.z
