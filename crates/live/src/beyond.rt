@@ -22,6 +22,35 @@ struct Lists<'a> {
     links: &'a [u32],
 }
 
+// A table, and the classes that come to each of its classes by the two columns: the one in which no set has a place, and the one in which x alone has it.
+#[derive(Clone, Copy)]
+struct Behind<'a, 'b> {
+    table: Table<'a>,
+    x: Set,
+    with_x: u32,
+    without: Lists<'b>,
+    with: Lists<'b>,
+    ghost column: { with_x ≡ put_bit x.0 true 0 },
+    ghost comers_without: { Comers table.classes table.classes (by_column table.rows.now table.width 0) without.heads.now without.links.now },
+    ghost comers_with: { Comers table.classes table.classes (by_column table.rows.now table.width with_x) with.heads.now with.links.now },
+}
+
+/// Memory for the lists of the two columns and for the queue, each with a word for each of `most` classes. What it held before does not matter.
+#[derive(Drop)]
+pub struct Backward<'m> {
+    pub most: usize,
+    pub heads0: &'m mut [u32],
+    pub links0: &'m mut [u32],
+    pub heads1: &'m mut [u32],
+    pub links1: &'m mut [u32],
+    pub queue: &'m mut [u32],
+    ghost heads0_fit: { most ≤ length heads0.now },
+    ghost links0_fit: { most ≤ length links0.now },
+    ghost heads1_fit: { most ≤ length heads1.now },
+    ghost links1_fit: { most ≤ length links1.now },
+    ghost queue_fits: { most ≤ length queue.now },
+}
+
 // Clears the first n words.
 fn clear(words: &mut [u32], n: usize)
     requires { n ≤ length words.old }
@@ -114,64 +143,54 @@ fn lone(x: Set, sets: u32) -> u32
 
 // Marks all classes that go by a column without or with x to the class at place i of the queue. The queue's new tail.
 fn mark_behind(
-    t: Table,
-    x: Set,
-    with_x: u32,
-    lists0: Lists,
-    lists1: Lists,
+    behind: Behind,
     marks: &mut [u32],
     queue: &mut [u32],
     tail: usize,
     i: usize,
 ) -> usize
-    requires column { with_x ≡ put_bit x.0 true 0 }
     requires place { i < tail }
-    requires comers0 { Comers t.classes t.classes (by_column t.rows.now t.width 0) lists0.heads.now lists0.links.now }
-    requires comers1 { Comers t.classes t.classes (by_column t.rows.now t.width with_x) lists1.heads.now lists1.links.now }
-    requires marking { Marking x.0 t.classes (moves t) (accepting t) marks.old queue.old tail i }
-    ensures { Marking x.0 t.entry.classes (moves t.entry) (accepting t.entry) marks.new queue.new result (i + 1) }
+    requires marking { Marking behind.x.0 behind.table.classes (moves behind.table) (accepting behind.table) marks.old queue.old tail i }
+    ensures { Marking behind.entry.x.0 behind.entry.table.classes (moves behind.entry.table) (accepting behind.entry.table) marks.new queue.new result (i + 1) }
 {
+    let t = behind.table;
     let r = Class(queue[i]);
-    let more = mark_comers(t, 0, lists0, r, marks, queue, tail);
-    mark_comers(t, with_x, lists1, r, marks, queue, more)
+    let more = mark_comers(t, 0, behind.without, r, marks, queue, tail);
+    mark_comers(t, behind.with_x, behind.with, r, marks, queue, more)
 }
 
-// Scratch, in words, for m classes: m each for heads0, links0, heads1, links1 and queue. Any of them may hold anything.
-// Marks in `completed`, by 1, each class that is completed by columns in which at most set x has a place; those that are not have other numbers.
-pub fn beyond(
-    t: WordTable,
-    x: Set,
-    completed: &mut [u32],
-    heads0: &mut [u32],
-    links0: &mut [u32],
-    heads1: &mut [u32],
-    links1: &mut [u32],
-    queue: &mut [u32],
-)
+/// Marks in `completed`, by 1, each class that is completed by columns in which at most set x has a place; those that are not have other numbers.
+/// What `completed` held before does not matter.
+pub fn beyond(t: WordTable, x: Set, completed: &mut [u32], backward: &mut Backward)
     requires few { t.table.classes < 2 ^ 32 }
     requires set { x.0 < t.sets }
-    requires room { (t.table.classes ≤ length completed.old) × (t.table.classes ≤ length queue.old) }
-    requires room0 { (t.table.classes ≤ length heads0.old) × (t.table.classes ≤ length links0.old) }
-    requires room1 { (t.table.classes ≤ length heads1.old) × (t.table.classes ≤ length links1.old) }
+    requires completed { t.table.classes ≤ length completed.old }
+    requires room { t.table.classes ≤ backward.old.most }
     ensures { (q : ℕ) → q < t.entry.table.classes → (accepts completed.new q ≡ true) ↔ Completes x.0 (moves t.entry.table) (accepting t.entry.table) q }
 {
+    let (heads0, links0) = (&mut *backward.heads0, &mut *backward.links0);
+    let (heads1, links1) = (&mut *backward.heads1, &mut *backward.links1);
+    let queue = &mut *backward.queue;
     let with_x = lone(x, t.sets);
     comers(t.table, 0, heads0, links0);
     comers(t.table, with_x, heads1, links1);
-    let lists0 = Lists {
-        heads: heads0,
-        links: links0,
-    };
-    let lists1 = Lists {
-        heads: heads1,
-        links: links1,
+    let behind = Behind {
+        table: t.table,
+        x,
+        with_x,
+        without: Lists {
+            heads: heads0,
+            links: links0,
+        },
+        with: Lists {
+            heads: heads1,
+            links: links1,
+        },
     };
     let mut tail = mark_accepting(t.table, completed, queue);
     let mut i = 0;
     while i < tail {
-        tail = mark_behind(
-            t.table, x, with_x, lists0, lists1, completed, queue, tail, i,
-        );
+        tail = mark_behind(behind, completed, queue, tail, i);
         i += 1;
     }
 }

@@ -3,7 +3,7 @@
 // A class is dead if nothing can be accepted from it. In a table in which no two classes are alike there is at most one such class:
 // it does not accept, and every column leads back to it. So no search is needed to find it: a class is ruled out by accepting,
 // or by the first column that leads elsewhere.
-ghost use Rattle.std.specs.Prelude.{◌≡◌, ℕ, ◌^◌, ◌<◌, ◌≤◌, true, false, ◌⊎◌, ◌↔◌, ◌≢◌};
+ghost use Rattle.std.specs.Prelude.{◌≡◌, ℕ, ◌^◌, ◌<◌, true, false, ◌⊎◌, ◌↔◌, ◌≢◌, MatchOption};
 ghost use Rattle.automata.specs.Tables.{Connected, Collapsed};
 ghost use Rattle.automata.specs.Subsets.{Live};
 ghost use Rattle.tables.specs.Cells.{entry, accepts};
@@ -31,18 +31,18 @@ fn is_dead(t: Table, q: Class) -> bool
     true
 }
 
-// The dead class, or the number of classes where there is none. It takes no scratch.
-pub fn dead(t: WordTable) -> usize
+/// The dead class, if there is one. It takes no scratch.
+pub fn dead(t: WordTable) -> Option<usize>
     requires few { t.table.classes < 2 ^ 32 }
     requires connected { Connected t.sets t.table.classes (moves t.table) }
     requires collapsed { Collapsed t.sets t.table.classes (moves t.table) (accepting t.table) }
-    ensures within { result ≤ t.entry.table.classes }
+    ensures within { MatchOption result (Unit {0}) (λ dead. dead < t.entry.table.classes) }
     ensures live { (q : ℕ) → q < t.entry.table.classes → (lives t.entry.table.classes result q ≡ true) ↔ Live t.entry.sets (moves t.entry.table) (accepting t.entry.table) q }
 {
     for q in 0..t.table.classes {
         if is_dead(t.table, Class(q as u32)) {
-            return q;
+            return Some(q);
         }
     }
-    t.table.classes
+    None
 }

@@ -1,6 +1,7 @@
-// The subset construction: the table of a claim under some, from that of its part.
+// The table of a claim under some, from that of its part: set x is left out of the columns, and the sets of classes that are reached are the new classes.
 #![tactic(auto)]
 
-mod part;
+pub mod memory;
 pub mod projection;
+pub mod subsets;
 mod successors;

@@ -5,7 +5,7 @@ use Rattle.live.proofs.beyond.beyond.Given as goal
 
 -- the queue is done before place i
 abbrev pub invariant-loop-i : goal.invariant-loop-i
-invariant-loop-i l = Marking l.x.0 l.t.table.classes (entry l.t.table.rows.now l.t.table.width) (accepts l.t.table.accept.now) l.completed l.queue l.tail l.i
+invariant-loop-i l = Marking l.fn.x.0 l.t.table.classes (entry l.t.table.rows.now l.t.table.width) (accepts l.t.table.accept.now) l.completed l.queue l.tail l.i
 
 -- each class is queued at most once
 abbrev pub decreases-loop-i : goal.decreases-loop-i

@@ -5,4 +5,4 @@ use Rattle.project.proofs.SuccessorsLaws.{Followed}
 use Rattle.project.proofs.successors.follow.Given as goal
 
 abbrev pub invariant-loop-z : goal.invariant-loop-z
-invariant-loop-z l = Followed (Leads (entry l.t.rows.now l.t.width) (lives l.t.classes l.dead) l.a l.b) l.w l.i l.to l.initial.sets l.sets l.z
+invariant-loop-z l = Followed (Leads (entry l.p.t.table.rows.now l.p.t.table.width) (lives l.p.t.table.classes l.p.dead) l.a l.b) l.p.w l.i l.to l.initial.sets l.sets l.z

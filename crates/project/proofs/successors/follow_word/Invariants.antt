@@ -8,7 +8,7 @@ use Rattle.project.proofs.successors.follow_word.Given as goal
 
 -- what the row has by now, and what follows the bits that are left, is what it had and what follows the word
 abbrev pub invariant-loop-left : goal.invariant-loop-left
-invariant-loop-left l = BitsBelow l.t.classes l.p l.left × (l.p + l.left ≤ l.from + l.word) × Ahead (Leads (entry l.t.rows.now l.t.width) (lives l.t.classes l.dead) l.a l.b) (has l.initial.row) l.from l.word (has l.row) l.p l.left
+invariant-loop-left l = BitsBelow l.p.t.table.classes l.q l.left × (l.q + l.left ≤ l.from + l.word) × Ahead (Leads (entry l.p.t.table.rows.now l.p.t.table.width) (lives l.p.t.table.classes l.p.dead) l.a l.b) (has l.initial.row) l.from l.word (has l.row) l.q l.left
 
 abbrev pub decreases-loop-left : goal.decreases-loop-left
 decreases-loop-left l = l.left

@@ -1,20 +1,16 @@
 -- The steps of a subset construction: the set that follows a set is the one that the definition says, a column with bit x leads where it leads without, and what each step of the search keeps.
-use Rattle.std.proofs.Common.{◌≡◌, ℕ, zero, suc, ◌/◌, ◌%◌, ◌<◌, Bool, true, false, not, ◌&&◌, ◌||◌, eqb, ltb, ◌⊎◌, ◌↔◌, List, [], ◌∷◌, length, set, Decides, sym, refl, ap, ◌∙◌, subst, ap₂, inl, inr, arith}
+use Rattle.std.proofs.Common.{◌≡◌, ℕ, zero, suc, ◌/◌, ◌<◌, ◌≤◌, Bool, true, false, ◌&&◌, ◌||◌, eqb, ◌⊎◌, ◌↔◌, Option, Some, Decides, sym, refl, ap, ◌∙◌, subst, ap₂, inl, inr, arith}
 use mathlib.Core.Path.{fun_ext}
-use Rattle.std.proofs.lemmas.List.{get_or-set_same}
-use Rattle.std.proofs.lemmas.Bool.{lt-ltb, ne_eqb, eqb-false, not-true, not_from_false, or_cases, or_left, or_right, eqb-true as eqb_same}
-use Rattle.words.specs.Words.{Word, bit}
+use Rattle.std.proofs.lemmas.Bool.{or_cases, or_left, or_right}
+use Rattle.words.specs.Words.{bit}
 use Rattle.words.specs.Bits.{put_bit}
 use Rattle.words.proofs.BitsLaws.{bit_put_here, bit_put_other, agree_put}
-use Rattle.automata.specs.Tables.{run}
 use Rattle.automata.specs.Subsets.{any, step_set, start_set, accepts_set}
 use Rattle.automata.proofs.Decisions.{and_true, eqb_true, bool_iff}
 use Rattle.automata.proofs.Subsets.{any_to, any_from}
-use Rattle.tables.specs.Cells.{entry, accepts}
-use Rattle.tables.specs.Search.{Searching}
 use Rattle.bitsets.specs.Bitrows.{Below, Meets}
 use Rattle.live.specs.Dead.{lives}
-use Rattle.live.proofs.DeadLaws.{lives_below}
+use Rattle.live.proofs.DeadLaws.{lives_below, lives_other, lives_dead}
 use Rattle.project.specs.Successors.{Successors}
 
 -- bit x of a column
@@ -27,9 +23,9 @@ put_is x a c b e others = agree_put x a c (λ y n. sym (others y n)) ∙ ap (λ 
 put_put : (x a : ℕ) (b c : Bool) → put_bit x b (put_bit x c a) ≡ put_bit x b a
 put_put x a b c = put_is x a (put_bit x b (put_bit x c a)) b (bit_put_here x b (put_bit x c a)) (λ y n. bit_put_other x b (put_bit x c a) y n ∙ bit_put_other x c a y n)
 
-pub put_less : (x a : ℕ) → bit x a ≡ true → put_bit x false a < a
-put_less zero a e = let f = eqb_same (a % 2) 1 e in omega arith
-put_less (suc x) a e = let h = put_less x (a / 2) e in omega arith
+pub put_le : (x a : ℕ) → put_bit x false a ≤ a
+put_le zero a = omega arith
+put_le (suc x) a = let h = put_le x (a / 2) in omega arith
 
 -- the step by a column without bit x, and with it
 module _ (m : ℕ) (δ : ℕ → ℕ → ℕ) (live : ℕ → Bool) (x : ℕ) where
@@ -63,19 +59,12 @@ module _ (m : ℕ) (δ : ℕ → ℕ → ℕ) (live : ℕ → Bool) (x : ℕ) wh
   step_copied X a = ap₂ (λ u v. λ q. live q && any (λ p. X p && (eqb (δ p u) q || eqb (δ p v) q)) m) (put_put x a true false) (put_put x a false false)
 
 -- the sets that are reached have live classes only, which are below m
-module _ (m dead : ℕ) (δ : ℕ → ℕ → ℕ) (x : ℕ) where
+module _ (m : ℕ) (dead : Option ℕ) (δ : ℕ → ℕ → ℕ) (x : ℕ) where
   pub start_below : Below m (start_set (lives m dead))
   start_below q e = lives_below m dead q ((and_true (lives m dead q) (eqb q 0)).0 e).0
 
   pub step_below : (X : ℕ → Bool) (a : ℕ) → Below m (step_set m δ (lives m dead) x X a)
   step_below X a q e = lives_below m dead q ((and_true (lives m dead q) (any (λ p. X p && (eqb (δ p (put_bit x true a)) q || eqb (δ p (put_bit x false a)) q)) m)).0 e).0
-
-  run_sets_below : (X : ℕ → Bool) (w : Word) → Below m X → Below m (run (step_set m δ (lives m dead) x) X w)
-  run_sets_below X [] h = h
-  run_sets_below X (a ∷ w) h = run_sets_below (step_set m δ (lives m dead) x X a) w (step_below X a)
-
-  pub found_below : (k n : ℕ) (at : ℕ → ℕ → Bool) (rows : List ℕ) (width i a : ℕ) → Searching k (step_set m δ (lives m dead) x) (start_set (lives m dead)) n at rows width i a → (j : ℕ) → j < n → Below m (at j)
-  found_below k n at rows width i a s j h = subst (Below m) (s.so_far.comes j h) (run_sets_below (start_set (lives m dead)) (s.ws j) start_below)
 
 -- whether a set accepts
 pub meets_says : (m : ℕ) (f X : ℕ → Bool) (r : Bool) → Below m X → Decides r (Meets X f) → r ≡ accepts_set m f X
@@ -84,41 +73,12 @@ meets_says m f X r below d = bool_iff r (accepts_set m f X) (
   λ t. (let (q, _, e) = any_to (λ q. X q && f q) m t in let (i, g) = (and_true (X q) (f q)).0 e in d.1 (q, i, g)),
 )
 
--- what a search says depends on the things found only
-pub searching_at : {S : Type 0} (k : ℕ) (step : S → ℕ → S) (s : S) (n : ℕ) (at at' : ℕ → S) (rows : List ℕ) (width i a : ℕ) → ((j : ℕ) → j < n → at' j ≡ at j) → Searching k step s n at rows width i a → Searching k step s n at' rows width i a
-searching_at k step s n at at' rows width i a same f =
-    let x = f.so_far in
-    record {
-      ws = f.ws;
-      so_far = record {
-        start = x.start;
-        first = same 0 x.start ∙ x.first;
-        empty = x.empty;
-        columns = x.columns;
-        comes = λ j h. x.comes j h ∙ sym (same j h);
-        differ = λ p q h g e. x.differ p q h g (sym (same p h) ∙ e ∙ same q g);
-        steps = λ p b o h g. (let (d, e, l) = x.steps p b o h g in (d, same (entry rows width p b) d ∙ e ∙ ap (λ t. step t b) (sym (same p h)), l));
-        born = x.born;
-        sorted = x.sorted;
-      };
-    }
-
--- a note whether class n accepts
-pub marked : (accept : List ℕ) (n v : ℕ) (r : Bool) → n < length accept → ((r ≡ true) × (v ≡ 1)) ⊎ ((r ≡ false) × (v ≡ 0)) → accepts (set accept n v) n ≡ r
-marked accept n v r h (inl e) = ap (λ z. eqb z 1) (get_or-set_same accept n v 0 h ∙ e.1) ∙ sym e.0
-marked accept n v r h (inr e) = ap (λ z. eqb z 1) (get_or-set_same accept n v 0 h ∙ e.1) ∙ sym e.0
-
 -- the start
-pub start_made : (m dead : ℕ) (Y : ℕ → Bool) → 0 < m → ((q : ℕ) → (Y q ≡ true) ↔ ((q ≡ 0) × (q ≡ dead → ⊥))) → Y ≡ start_set (lives m dead)
+pub start_made : (m : ℕ) (dead : Option ℕ) (Y : ℕ → Bool) → 0 < m → ((q : ℕ) → (Y q ≡ true) ↔ ((q ≡ 0) × (dead ≡ Some q → ⊥))) → Y ≡ start_set (lives m dead)
 start_made m dead Y h s = fun_ext (λ q. bool_iff (Y q) (start_set (lives m dead) q) (to q, from q))
   where
     to : (q : ℕ) → Y q ≡ true → start_set (lives m dead) q ≡ true
-    to q t =
-        let (e, n) = (s q).0 t in
-        (and_true (lives m dead q) (eqb q 0)).1 ((and_true (ltb q m) (not (eqb q dead))).1 (lt-ltb q m (omega arith), not_from_false (eqb q dead) (ne_eqb q dead n)), (eqb_true q 0).1 e)
+    to q t = let (e, n) = (s q).0 t in (and_true (lives m dead q) (eqb q 0)).1 (lives_other m dead q (omega arith) n, (eqb_true q 0).1 e)
 
     from : (q : ℕ) → start_set (lives m dead) q ≡ true → Y q ≡ true
-    from q t =
-        let (l, e) = (and_true (lives m dead q) (eqb q 0)).0 t in
-        let (_, n) = (and_true (ltb q m) (not (eqb q dead))).0 l in
-        (s q).1 ((eqb_true q 0).0 e, eqb-false q dead (not-true (eqb q dead) n))
+    from q t = let (l, e) = (and_true (lives m dead q) (eqb q 0)).0 t in (s q).1 ((eqb_true q 0).0 e, λ d. lives_dead m dead q d l)

@@ -3,8 +3,8 @@ use mathlib.Core.Bool.{false≢true}
 use borrow.Rule.Slice.PartMut.{post_of}
 use Rattle.bitsets.specs.Bitrows.{has}
 use Rattle.bitsets.proofs.BitrowsLaws.{row_first}
-use Rattle.project.proofs.ProjectionLaws.{start_made}
-use Rattle.project.proofs.projection.start_set.Goals as goal
+use Rattle.project.proofs.SubsetsLaws.{start_made}
+use Rattle.project.proofs.subsets.start_set.Goals as goal
 
 pub returns : goal.returns
 returns c =

@@ -3,8 +3,8 @@ use Rattle.words.proofs.BitsLaws.{put_bit_below}
 use Rattle.tables.specs.Cells.{entry}
 use Rattle.bitsets.specs.Bitrows.{member}
 use Rattle.live.specs.Dead.{lives}
-use Rattle.project.proofs.ProjectionLaws.{put_is, put_same, step_made}
-use Rattle.project.proofs.projection.next_set.Goals as goal
+use Rattle.project.proofs.SubsetsLaws.{put_is, put_same, step_made}
+use Rattle.project.proofs.subsets.next_set.Goals as goal
 
 pub follow-requires-clause-columns : goal.follow-requires-clause-columns
 follow-requires-clause-columns c =
