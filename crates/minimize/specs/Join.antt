@@ -1,14 +1,36 @@
 -- Classes that are alike joined, and the table of the joined classes written.
-use Rattle.std.specs.Prelude.{ℕ, ◌<◌, ◌≤◌, List, slice_index}
-use Rattle.automata.specs.Joined.{Joined}
-use Rattle.tables.specs.Cells.{entry}
+use Rattle.std.specs.Prelude.{◌≡◌, ℕ, ◌<◌, ◌≤◌, List, slice_index}
+use Rattle.automata.specs.Joined.{Joined, Written}
+use Rattle.tables.specs.Cells.{entry, accepts}
 use Rattle.tables.specs.View.{moves, accepting}
 use Rattle.tables.specs.declared.cells.WordTable.{WordTable}
-use Rattle.minimize.specs.Quotient.{Quotient}
+use Rattle.tables.specs.declared.sheet.Sheet.{Sheet}
+use Rattle.minimize.specs.Parts.{Partition}
 
--- cls has the joined class of each class of the table, firsts the first class of each of the n joined ones; rows and accept are the joined table
-pub record Joining (t : WordTable) (cls firsts : List ℕ) (n : ℕ) (rows accept : List ℕ) : Type 0 where
+-- cls has the part of each class of the table, firsts the first class of each of the n parts; a part is the classes that are alike
+pub record Alike (t : WordTable) (cls firsts : List ℕ) (n : ℕ) : Type 0 where
   pub joined : Joined t.sets t.table.classes (moves t.table) (accepting t.table) (λ q. slice_index cls q) (λ i. slice_index firsts i) n
+  pub parts : Partition t.table.classes (λ q. slice_index cls q) (λ i. slice_index firsts i) n
   pub few : n ≤ t.table.classes
-  pub table : Quotient t.table cls firsts n rows accept
-  pub below : (i a : ℕ) → i < n → a < t.table.width → entry rows t.table.width i a < n
+
+-- the classes of a table that are alike make n classes
+pub record Joins (t : WordTable) (n : ℕ) : Type 0 where
+  pub cls : ℕ → ℕ
+  pub rep : ℕ → ℕ
+  pub joined : Joined t.sets t.table.classes (moves t.table) (accepting t.table) cls rep n
+  pub few : n ≤ t.table.classes
+
+-- more than there is room for on the sheet
+pub record TooManyJoined (t : WordTable) (s : Sheet) : Type 0 where
+  pub count : ℕ
+  pub joins : Joins t count
+  pub many : s.shape.most < count
+
+-- and the table of these stands on the sheet, which was s and is u
+pub record Minimized (t : WordTable) (s u : Sheet) (n : ℕ) : Type 0 where
+  pub joins : Joins t n
+  pub few : n ≤ s.shape.most
+  pub written : Written t.sets (moves t.table) (accepting t.table) joins.cls joins.rep n (entry u.rows.now s.shape.width) (accepts u.accept.now)
+  pub shape : u.shape ≡ s.shape
+  pub rows : u.rows.ghost_name ≡ s.rows.ghost_name
+  pub accept : u.accept.ghost_name ≡ s.accept.ghost_name

@@ -1,12 +1,9 @@
 // Parts split by the smaller half, and numbered by their first classes.
-ghost use Rattle.std.specs.Prelude.{◌≡◌, ◌+◌, ◌*◌, ◌^◌, ◌<◌, ◌≤◌, true, length, slice_index};
-ghost use Rattle.automata.specs.Joined.{Joined};
-ghost use Rattle.tables.specs.Cells.{entry};
-ghost use Rattle.tables.specs.View.{moves, accepting};
-ghost use Rattle.minimize.specs.Pairs.{Room};
-ghost use Rattle.minimize.specs.Parts.{Partition};
+ghost use Rattle.std.specs.Prelude.{◌≡◌, ◌+◌, ◌*◌, ◌^◌, ◌<◌, ◌≤◌, true, length};
+ghost use Rattle.minimize.specs.Join.{Alike};
 
-use crate::parts::{copy, renumber};
+use crate::memory::Parts;
+use crate::parts::{Column, copy, renumber};
 use splitting::scratch::Scratch;
 use splitting::split::split;
 use tables::cells::{Table, WordTable};
@@ -19,26 +16,18 @@ pub fn splits(t: Table, index: &[u32]) -> bool
 }
 
 // Parts the classes into those that are alike, as join does. The parts, numbered as they came, are numbered again by their first classes: by column 0, which splits none of them.
-// Splitting writes the parts to cls, and takes as scratch, each of a word for a class: cur, lefts, rights and firsts, and what is cut from index: two lists of a word for each entry of the table,
+// Splitting writes the parts to cls, and takes as scratch, each of a word for a class: anew, lefts, rights and firsts, and what is cut from index: two lists of a word for each entry of the table,
 // three words for each class, and the rest for the columns that repeat an earlier one, as many of them as fit.
-pub fn join_by_splitting(
-    t: WordTable,
-    cls: &mut [u32],
-    firsts: &mut [u32],
-    cur: &mut [u32],
-    lefts: &mut [u32],
-    rights: &mut [u32],
-    index: &mut [u32],
-) -> usize
+pub fn join_by_splitting(t: WordTable, parts: &mut Parts) -> usize
     requires some { 0 < t.table.classes }
     requires few { t.table.classes < 2 ^ 32 }
-    requires parts { (t.table.classes ≤ length cls.old) × (t.table.classes ≤ length firsts.old) × (t.table.classes ≤ length cur.old) }
-    requires room { Room t.table.classes lefts.old rights.old index.old }
-    requires lists { 2 * (t.table.classes * t.table.width) + 3 * t.table.classes ≤ length index.old }
-    ensures joined { Joined t.entry.sets t.entry.table.classes (moves t.entry.table) (accepting t.entry.table) (λ q. slice_index cls.new q) (λ i. slice_index firsts.new i) result }
-    ensures parts { Partition t.entry.table.classes (λ q. slice_index cls.new q) (λ i. slice_index firsts.new i) result }
-    ensures few { result ≤ t.entry.table.classes }
+    requires room { t.table.classes ≤ parts.old.most }
+    requires lists { 2 * (t.table.classes * t.table.width) + 3 * t.table.classes ≤ length parts.old.index.now }
+    ensures alike { Alike t.entry parts.new.cls.now parts.new.firsts.now result }
+    ensures most { parts.new.most ≡ parts.old.most }
 {
+    let (cls, firsts, anew) = (&mut *parts.cls, &mut *parts.firsts, &mut *parts.anew);
+    let (lefts, rights, index) = (&mut *parts.lefts, &mut *parts.rights, &mut *parts.index);
     let m = t.table.classes;
     let (heads, rest) = index.split_at_mut(m * t.table.width);
     let (links, rest) = rest.split_at_mut(m * t.table.width);
@@ -46,7 +35,7 @@ pub fn join_by_splitting(
     let (touched, rest) = rest.split_at_mut(m);
     let (members, repeats) = rest.split_at_mut(m);
     let mut scratch = Scratch {
-        order: &mut *cur,
+        order: &mut *anew,
         place: &mut *lefts,
         begin: &mut *firsts,
         end: &mut *rights,
@@ -58,8 +47,12 @@ pub fn join_by_splitting(
         repeats,
     };
     split(t, cls, &mut scratch);
-    copy(cls, m, cur);
-    let count = renumber(t.table, 0, cls, cur, firsts, lefts, rights, index);
-    copy(cur, m, cls);
+    copy(cls, m, anew);
+    let column = Column {
+        table: t.table,
+        number: 0,
+    };
+    let count = renumber(column, cls, anew, firsts, lefts, rights, index);
+    copy(anew, m, cls);
     count
 }

@@ -34,45 +34,54 @@ pub fn by_acceptance(t: Table, cls: &mut [u32], firsts: &mut [u32]) -> usize
     count
 }
 
-// Splits the parts of `cur` by one column: classes stay together if they were in one part and the column leads them into one part of `cls`.
-// The new number of a class is the number of its pair (its part in cur, the part in cls to which the column leads), the pairs numbered in the order of the classes.
+// A column of a table.
+#[derive(Clone, Copy)]
+pub struct Column<'a> {
+    pub table: Table<'a>,
+    pub number: u32,
+    ghost within: { number < table.width },
+}
+
+// Splits the parts of `anew` by one column: classes stay together if they were in one part and the column leads them into one part of `cls`.
+// The new number of a class is the number of its pair (its part in anew, the part in cls to which the column leads), the pairs numbered in the order of the classes.
 // Invariant: the classes before q have the numbers of their pairs, the others their old parts. One pass over the classes, a constant number of steps each.
 // Scratch: lefts and rights a word for each class, index a word for each pair of classes.
 pub fn renumber(
-    t: Table,
-    column: u32,
+    column: Column,
     cls: &[u32],
-    cur: &mut [u32],
+    anew: &mut [u32],
     firsts: &mut [u32],
     lefts: &mut [u32],
     rights: &mut [u32],
     index: &mut [u32],
 ) -> usize
-    requires column { column < t.width }
-    requires few { t.classes < 2 ^ 32 }
-    requires parts { (t.classes ≤ length cls.now) × (t.classes ≤ length cur.old) × (t.classes ≤ length firsts.old) }
-    requires room { Room t.classes lefts.old rights.old index.old }
-    requires cls_below { (q : ℕ) → q < t.classes → slice_index cls.now q < t.classes }
-    requires cur_below { (q : ℕ) → q < t.classes → slice_index cur.old q < t.classes }
-    ensures { Parted t.entry.classes
-        (λ q. pair (slice_index cur.old q) (slice_index cls.now (moves t.entry q column)))
-        (λ q. slice_index cur.new q)
+    requires few { column.table.classes < 2 ^ 32 }
+    requires cls { column.table.classes ≤ length cls.now }
+    requires anew { column.table.classes ≤ length anew.old }
+    requires firsts { column.table.classes ≤ length firsts.old }
+    requires room { Room column.table.classes lefts.old rights.old index.old }
+    requires cls_below { (q : ℕ) → q < column.table.classes → slice_index cls.now q < column.table.classes }
+    requires anew_below { (q : ℕ) → q < column.table.classes → slice_index anew.old q < column.table.classes }
+    ensures { Parted column.entry.table.classes
+        (λ q. pair (slice_index anew.old q) (slice_index cls.now (moves column.entry.table q column.entry.number)))
+        (λ q. slice_index anew.new q)
         (λ i. slice_index firsts.new i)
         result }
 {
+    let (t, a) = (column.table, column.number);
     let mut count = 0;
     for q in 0..t.classes {
-        let to = t.next(Class(q as u32), column);
+        let to = t.next(Class(q as u32), a);
         let i = intern(
             lefts,
             rights,
             index,
             t.classes,
             count,
-            cur[q],
+            anew[q],
             cls[to.0 as usize],
         );
-        cur[q] = i;
+        anew[q] = i;
         if i as usize == count {
             firsts[count] = q as u32;
             count += 1;

@@ -4,8 +4,8 @@ use Rattle.minimize.proofs.RoundsLaws.{stable_done, done_copied}
 use Rattle.minimize.proofs.HalvesLaws.{stable_renumbered}
 use Rattle.minimize.proofs.halves.join_by_splitting.Goals as goal
 
-pub returns : goal.returns
-returns c =
+pub returns-clause-alike : goal.returns-clause-alike
+returns-clause-alike c =
     let t = c.args.t.table in
     let s = stable_renumbered (λ q a h l. t.below q a h (omega (arith, c.args.t.wide))) c.split.ensures.stable c.copy.ensures c.renumber-count.ensures in
     let done = stable_done c.args.t.wide t.below c.renumber-count.ensures.parts s (omega arith) in
