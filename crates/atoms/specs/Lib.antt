@@ -1,2 +1,3 @@
--- What the code of the kinds without parts says.
-pub mod Explore
+-- The machine of a claim without parts, as what a search finds of it; its table.
+pub mod States
+pub mod AtomTable

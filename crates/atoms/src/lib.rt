@@ -1,6 +1,7 @@
 // Tables of the claims without parts.
 #![tactic(auto)]
 
-pub mod explore;
-pub mod leaf;
+pub mod atom_table;
 pub mod machine;
+mod memory;
+mod states;

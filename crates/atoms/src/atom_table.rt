@@ -1,0 +1,60 @@
+// The exact table of a claim without parts: its machine's states are searched, and those that are alike joined.
+// Two sets that are one make states that are alike, as for `next x x`, so whether the claim fits is known only once they are joined.
+ghost use Rattle.std.specs.Prelude.{◌≡◌, ◌+◌, ◌*◌, ◌^◌, ◌<◌, ◌≤◌, length, MatchOption};
+ghost use Rattle.claims.specs.Sizes.{Fits};
+ghost use Rattle.claims.specs.Atoms.{atom as claim, Named};
+ghost use Rattle.tables.specs.Cells.{entry, accepts};
+ghost use Rattle.atoms.specs.AtomTable.{Exact};
+
+use crate::memory::States;
+use claims::atom::Atom;
+use minimize::memory::Parts;
+use minimize::minimize::minimize;
+use tables::sheet::{Shape, Sheet};
+use worklist::explore::explore;
+
+/// The most states that a machine has.
+pub const STATES: usize = 9;
+
+/// The exact table of the claim, written on the sheet: how many classes it has, or that they are more than the sheet has room for.
+/// Scratch: a row for each state, six words for each, and one for each pair of them. What it held before does not matter.
+pub fn atom_table(atom: Atom, scratch: &mut [u32], sheet: &mut Sheet) -> Option<usize>
+    requires named { Named sheet.old.shape.sets atom }
+    requires scratch { 9 * sheet.old.shape.width + 135 ≤ length scratch.old }
+    ensures { MatchOption result (Fits sheet.old.shape.sets sheet.old.shape.most (claim atom) → ⊥) (Exact sheet.old sheet.new (claim atom)) }
+{
+    let Shape { sets, width, .. } = sheet.shape;
+    let (rows, rest) = scratch.split_at_mut(STATES * width);
+    let (accept, rest) = rest.split_at_mut(STATES);
+    let (cls, rest) = rest.split_at_mut(STATES);
+    let (firsts, rest) = rest.split_at_mut(STATES);
+    let (anew, rest) = rest.split_at_mut(STATES);
+    let (lefts, rest) = rest.split_at_mut(STATES);
+    let (rights, index) = rest.split_at_mut(STATES);
+    let shape = Shape {
+        most: STATES,
+        sets,
+        width,
+    };
+    let mut table = Sheet {
+        rows,
+        accept,
+        shape,
+    };
+    let mut states = States {
+        atom,
+        sets,
+        found: [0; 10],
+    };
+    let mut parts = Parts {
+        most: STATES,
+        cls,
+        firsts,
+        anew,
+        lefts,
+        rights,
+        index,
+    };
+    let count = explore(&mut states, &mut table)?;
+    minimize(table.table(count), &mut parts, sheet)
+}
