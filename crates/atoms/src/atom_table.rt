@@ -26,11 +26,7 @@ pub fn atom_table(atom: Atom, scratch: &mut [u32], sheet: &mut Sheet) -> Option<
     let Shape { sets, width, .. } = sheet.shape;
     let (rows, rest) = scratch.split_at_mut(STATES * width);
     let (accept, rest) = rest.split_at_mut(STATES);
-    let (cls, rest) = rest.split_at_mut(STATES);
-    let (firsts, rest) = rest.split_at_mut(STATES);
-    let (anew, rest) = rest.split_at_mut(STATES);
-    let (lefts, rest) = rest.split_at_mut(STATES);
-    let (rights, index) = rest.split_at_mut(STATES);
+    let (parting, index) = rest.split_at_mut(5 * STATES);
     let shape = Shape {
         most: STATES,
         sets,
@@ -46,15 +42,7 @@ pub fn atom_table(atom: Atom, scratch: &mut [u32], sheet: &mut Sheet) -> Option<
         sets,
         found: [0; 10],
     };
-    let mut parts = Parts {
-        most: STATES,
-        cls,
-        firsts,
-        anew,
-        lefts,
-        rights,
-        index,
-    };
+    let mut parts = Parts::cut(STATES, parting, index);
     let count = explore(&mut states, &mut table)?;
     minimize(table.table(count), &mut parts, sheet)
 }

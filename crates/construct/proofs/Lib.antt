@@ -1,5 +1,7 @@
+pub mod StandsLaws
+pub mod LentLaws
+pub mod SignLaws
 pub mod HandOnLaws
-pub mod WorkingLaws
-pub mod CombineLaws
-pub mod ProjectLaws
+pub mod ConjoinLaws
+pub mod QuantifyLaws
 pub mod WorkOutLaws

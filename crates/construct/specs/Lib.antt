@@ -1,3 +1,4 @@
 -- What working out a part says, and the memory that it takes.
-pub mod Working
+pub mod Stands
 pub mod HandOn
+pub mod WorkOut

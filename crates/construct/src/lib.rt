@@ -1,7 +1,9 @@
-// Working a claim out, part by part: from the exact tables of its parts to a table of its own, or that it does not fit.
+// A claim worked out, part by part, in lent memory: from the tables of its parts to a table of its own, or that it does not fit.
 #![tactic(auto)]
 
-pub mod combine;
+pub mod conjoin;
 pub mod hand_on;
+pub mod quantify;
 pub mod wanted;
-pub mod working;
+pub mod work;
+pub mod work_out;

@@ -5,7 +5,7 @@
 // and 0 ends the list, so that the numbers fall along a list. Classes that are completed are marked, and queued as they are marked, each once.
 // Of each class in the queue all that go to it in one step are marked. Once that is done for the whole queue, the marked classes
 // hold the accepting ones and all from which a marked one is reached, and no others: those are the completed ones.
-ghost use Rattle.std.specs.Prelude.{◌≡◌, ℕ, ◌+◌, ◌^◌, ◌<◌, ◌≤◌, true, ◌↔◌, length, slice_index};
+ghost use Rattle.std.specs.Prelude.{◌≡◌, ℕ, ◌+◌, ◌*◌, ◌^◌, ◌<◌, ◌≤◌, true, ◌↔◌, length, slice_index};
 ghost use Rattle.words.specs.Bits.{put_bit};
 ghost use Rattle.automata.specs.Subsets.{Completes};
 ghost use Rattle.tables.specs.Cells.{accepts};
@@ -49,6 +49,29 @@ pub struct Backward<'m> {
     ghost heads1_fit: { most ≤ length heads1.now },
     ghost links1_fit: { most ≤ length links1.now },
     ghost queue_fits: { most ≤ length queue.now },
+}
+
+impl Backward<'_> {
+    /// Cuts five words for each class.
+    pub fn cut(most: usize, scratch: &mut [u32]) -> Backward<'_>
+        requires few { most < 2 ^ 32 }
+        requires scratch { 5 * most ≤ length scratch.old }
+        ensures { result.most ≡ most }
+    {
+        let (heads0, rest) = scratch.split_at_mut(most);
+        let (links0, rest) = rest.split_at_mut(most);
+        let (heads1, rest) = rest.split_at_mut(most);
+        let (links1, rest) = rest.split_at_mut(most);
+        let (queue, _) = rest.split_at_mut(most);
+        Backward {
+            most,
+            heads0,
+            links0,
+            heads1,
+            links1,
+            queue,
+        }
+    }
 }
 
 // Clears the first n words.

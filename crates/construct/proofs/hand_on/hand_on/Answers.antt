@@ -1,13 +1,13 @@
-use Rattle.std.proofs.Common.{arith}
-use Rattle.construct.proofs.HandOnLaws.{handed_joined, handed_copied}
-use Rattle.construct.proofs.WorkingLaws.{columns_few}
+use Rattle.std.proofs.Common.{refl, arith}
+use Rattle.construct.proofs.HandOnLaws.{handed_minimized, handed_copied}
 use Rattle.construct.proofs.hand_on.hand_on.Goals as goal
 
-pub returns-in-Exact : goal.returns-in-Exact
-returns-in-Exact c = rw c.in-Exact.is (handed_joined c.args.t c.join_into.new.cls c.join_into.new.firsts c.join_into.result c.join_into.new.rows c.join_into.new.accept c.join_into.ensures)
+-- the joined classes are no more than the classes, for which there is room
+pub unreachable-requires : goal.unreachable-requires
+unreachable-requires c = let y = c.in_default.ensures in omega (arith, y.many, y.joins.few, c.requires.few)
+
+pub returns-in-Some : goal.returns-in-Some
+returns-in-Some c = rw c.in-Exact.is (handed_minimized c.args.t c.args.sheet.now c.minimize.new.sheet c.requires.sets c.in-Some.count c.in-Some.ensures)
 
 pub returns-in-Any : goal.returns-in-Any
-returns-in-Any c = rw c.in-Any.is (handed_copied c.args.t c.copy.new.rows c.copy.new.accept c.copy.ensures.leads c.copy.ensures.ends)
-
-pub cut_scratch-cls-requires : goal.cut_scratch-cls-requires
-cut_scratch-cls-requires c = let (p, q) = columns_few c.args.t.sets c.args.t.narrow in (omega arith, omega arith, omega arith, omega arith, omega arith)
+returns-in-Any c = rw c.in-Any.is (handed_copied c.args.t c.args.sheet.now _ c.requires.sets refl c.requires.few c.copy.ensures.leads c.copy.ensures.ends)

@@ -1,7 +1,7 @@
 use Rattle.std.proofs.Common.{◌-◌, [], ◌∷◌, length, take, refl, ap, arith}
 use Rattle.claims.proofs.FrontLaws.{no_first}
-use Rattle.construct.proofs.WorkOutLaws.{first_longer, second_longer}
-use Rattle.construct.proofs.working.two_parts.Goals as goal
+use Rattle.construct.proofs.SignLaws.{first_longer, second_longer}
+use Rattle.construct.proofs.work_out.two_parts.Goals as goal
 
 pub unreachable-requires : goal.unreachable-requires
 unreachable-requires c = no_first c.args.k c.args.rest.now (5 ∷ c.args.rest.now) refl c.in_default.ensures c.requires.0 [] c.requires.1

@@ -1,0 +1,82 @@
+// Working a claim out, part by part, in prefix order over its bytes.
+ghost use Rattle.std.specs.Prelude.{◌≡◌, ◌<◌, ◌≤◌, ◌∷◌, length};
+ghost use Rattle.construct.specs.WorkOut.{Halves, WorkedOut, Lent, IsPart};
+
+use crate::conjoin::conjoin;
+use crate::quantify::quantify;
+use crate::wanted::Wanted;
+use crate::work::Work;
+use atoms::atom_table::atom_table;
+use claims::prefix::skip;
+use claims::sign::{Sign, read_sign};
+use tables::complement::complement;
+use tables::sheet::Sheet;
+use workspace::cut::{Slot, cut_slot};
+
+// The two parts of an and, by the bytes behind its sign: the longer one, and then the shorter.
+fn two_parts(rest: &[u8], k: u8) -> (&[u8], &[u8])
+    requires { IsPart k (5 ∷ rest.now) }
+    ensures { Halves k (5 ∷ rest.now) result.0.now result.1.now }
+{
+    let Some(second) = skip(rest, k) else {
+        unreachable()
+    };
+    let first = &rest[0..rest.len() - second.len()];
+    if first.len() < second.len() {
+        (second, first)
+    } else {
+        (first, second)
+    }
+}
+
+/// A table of the part with these bytes, on the sheet, as it is wanted: how many classes it has, or that the part does not fit.
+/// A part is worked out in prefix order: its sign, then its parts. What a sign combines are exact tables, so only the outermost sign, or the first that is no
+/// `not`, may leave its table as it is. Of the two parts of an and the longer is worked out first, with all free memory; the shorter has less than half of the
+/// bytes, and finds room behind the table of the longer. So one slot of free memory for each doubling of the bytes suffices.
+/// The bytes of the part fall with each call.
+pub fn work_out(part: &[u8], wanted: Wanted, sheet: &mut Sheet, work: &mut Work) -> Option<usize>
+    requires part { IsPart sheet.old.shape.sets part.now }
+    requires shape { sheet.old.shape ≡ work.old.shape }
+    requires lent { Lent (length part.now) work.old.shape (length work.old.free.now) }
+    ensures worked_out { WorkedOut wanted part.now sheet.old sheet.new result }
+    ensures shape { work.new.shape ≡ work.old.shape }
+    ensures free { length work.new.free.now ≡ length work.old.free.now }
+{
+    let (sign, rest) = read_sign(part)?;
+    match sign {
+        Sign::Atom(atom) => {
+            let scratch = &mut *work.scratch;
+            atom_table(atom, scratch, sheet)
+        }
+        Sign::Not => {
+            let m = work_out(rest, wanted, sheet, work)?;
+            let accept = &mut *sheet.accept;
+            complement(accept, m);
+            Some(m)
+        }
+        Sign::And => {
+            let (longer, shorter) = two_parts(rest, sheet.shape.sets as u8);
+            let m = work_out(longer, Wanted::Exact, sheet, work)?;
+            let shape = work.shape;
+            let (free, scratch, pairs) = (&mut *work.free, &mut *work.scratch, &mut *work.pairs);
+            let Slot { rows, accept, rest } = cut_slot(free, shape.width, shape.most);
+            let mut other = Sheet {
+                rows,
+                accept,
+                shape,
+            };
+            let mut inner = Work {
+                shape,
+                free: rest,
+                scratch,
+                pairs,
+            };
+            let n = work_out(shorter, Wanted::Exact, &mut other, &mut inner)?;
+            conjoin(wanted, sheet, m, other.table(n), &mut inner)
+        }
+        Sign::Some(x) => {
+            let m = work_out(rest, Wanted::Exact, sheet, work)?;
+            quantify(wanted, x, sheet, m, work)
+        }
+    }
+}
