@@ -5,10 +5,12 @@ ghost use Rattle.lengths.specs.Says.{JudgedPost};
 use crate::answer::answer;
 use crate::judged::Judged;
 use claims::claim::claim_sets;
-use workspace::cut::{Work, cut_work};
-use workspace::floor::too_few;
 use construct::wanted::Wanted;
-use construct::construct::work_out;
+use construct::work::Work;
+use construct::work_out::work_out;
+use tables::sheet::{Shape, Sheet};
+use workspace::cut::{Slot, cut_slot};
+use workspace::floor::too_few;
 
 // Whether the claim holds of all words, of none, or of which first; `most` is the largest number of classes that may be told apart at a part.
 // Nothing is asked of the arguments: too little work memory, bytes that are no claim and a claim that does not fit are answers. Work memory is free, out is written only where
@@ -26,25 +28,17 @@ pub fn judge(claim: &[u8], most: u32, out: &mut [u32], work: &mut [u32]) -> Judg
         return Judged::Many;
     }
     let n = most as usize;
-    let Work {
+    let shape = Shape::new(n, u32::from(k));
+    let Slot { rows, accept, rest } = cut_slot(work, shape.width, n);
+    let mut sheet = Sheet {
         rows,
         accept,
-        free,
-        scratch,
-        pairs,
-    } = cut_work(work, 1usize << k, n);
-    let Some(m) = work_out(
-        &claim[1..],
-        Wanted::Any,
-        k,
-        n,
-        rows,
-        accept,
-        free,
-        scratch,
-        pairs,
-    ) else {
+        shape,
+    };
+    let mut inner = Work::cut(shape, rest);
+    let Some(m) = work_out(&claim[1..], Wanted::Any, &mut sheet, &mut inner) else {
         return Judged::Many;
     };
-    answer(u32::from(k), n, rows, accept, m, scratch, out)
+    let scratch = inner.scratch;
+    answer(sheet.table(m), scratch, out)
 }

@@ -1,11 +1,10 @@
-use Rattle.std.proofs.Common.{◌≡◌, ◌*◌, ◌%◌, ◌^◌, sym, subst, arith}
-use Rattle.std.proofs.lemmas.Nat.{one_shl}
+use Rattle.std.proofs.Common.{◌≡◌, ◌+◌, ◌*◌, ◌^◌, ◌≤◌, sym, ap, ◌∙◌, subst, arith}
 use Rattle.claims.specs.Sizes.{Fits}
 use Rattle.lengths.specs.Answer.{Answered}
 use Rattle.construct.specs.declared.wanted.Wanted.TheVariants.{Any}
-use Rattle.construct.specs.Working.{Stands}
 use Rattle.lengths.proofs.JudgeLaws.{claim_few, claim_front, enough, judged_answer, judged_few, judged_many, judged_no_claim, lent_whole, work_enough}
-use Rattle.construct.proofs.WorkingLaws.{columns_few, fits_none}
+use Rattle.construct.proofs.LentLaws.{whole_room}
+use Rattle.construct.proofs.StandsLaws.{fits_none, stands_fits, stands_table}
 use Rattle.lengths.proofs.judge.judge.Goals as goal
 
 pub returns-then-too_few : goal.returns-then-too_few
@@ -22,38 +21,52 @@ returns-then-most-eq0 c =
     judged_many c.args.claim.now c.args.most c.args.out.now _ (enough _ c.too_few.result c.too_few.ensures c.if-too_few.false)
     c.in-Some.k d y (λ f. fits_none c.in-Some.k d (subst (λ n. Fits c.in-Some.k n d) c.if-most-eq0.true f))
 
-pub cut_work-rows-requires : goal.cut_work-rows-requires
-cut_work-rows-requires c =
+pub cut_slot-rows-requires-clause-room : goal.cut_slot-rows-requires-clause-room
+cut_slot-rows-requires-clause-room c =
     let (d, y) = c.in-Some.ensures.said in
-    let (l, h, b) = claim_few c.args.claim.now c.in-Some.k d y in
-    let w : (1 * 2 ^ c.in-Some.k) % 2 ^ 64 ≡ 2 ^ c.in-Some.k = one_shl c.in-Some.k 64 (omega arith) in
-    let (p, q) = columns_few c.in-Some.k h in
-    (work_enough c.args.claim.now c.in-Some.k d c.args.most _ _ y w (enough _ c.too_few.result c.too_few.ensures c.if-too_few.false), omega arith, omega arith, omega arith, omega arith)
+    let h = c.new-shape.result in
+    let wide = h.wide ∙ ap (λ k. 2 ^ k) (c.new-shape.ensures.sets ∙ c.from.ensures) in
+    let w = whole_room c.args.most h.width _ (work_enough c.args.claim.now c.in-Some.k d c.args.most _ h.width y wide (enough _ c.too_few.result c.too_few.ensures c.if-too_few.false)) in
+    omega (arith, w)
+
+pub cut-inner-requires-clause-words : goal.cut-inner-requires-clause-words
+cut-inner-requires-clause-words c =
+    let (d, y) = c.in-Some.ensures.said in
+    let h = c.new-shape.result in
+    let wide = h.wide ∙ ap (λ k. 2 ^ k) (c.new-shape.ensures.sets ∙ c.from.ensures) in
+    let w = whole_room c.args.most h.width _ (work_enough c.args.claim.now c.in-Some.k d c.args.most _ h.width y wide (enough _ c.too_few.result c.too_few.ensures c.if-too_few.false)) in
+    rw c.new-shape.ensures.most (omega (arith, w, c.cut_slot-rows.ensures.rest))
 
 pub work_out-requires : goal.work_out-requires
 work_out-requires c =
     let (d, y) = c.in-Some.ensures.said in
     let (l, h, b) = claim_few c.args.claim.now c.in-Some.k d y in
-    let w : (1 * 2 ^ c.in-Some.k) % 2 ^ 64 ≡ 2 ^ c.in-Some.k = one_shl c.in-Some.k 64 (omega arith) in
-    let r = c.cut_work-rows.ensures in
     record {
-      part = (d, claim_front c.args.claim.now c.in-Some.k d y);
-      small = (omega arith, h, omega arith, omega arith);
-      lent = lent_whole _ c.in-Some.k c.args.most _ _ _ _ _ _ w b r.rows r.accept r.free r.scratch r.pairs;
+      part = (d, rw (c.new-shape.ensures.sets ∙ c.from.ensures) (claim_front c.args.claim.now c.in-Some.k d y));
+      shape = sym c.cut-inner.ensures.shape;
+      lent = lent_whole _ _ _ b (rw c.cut-inner.ensures.shape c.cut-inner.ensures.free);
     }
 
 pub returns-in_default-work_out : goal.returns-in_default-work_out
 returns-in_default-work_out c =
     let (d, y) = c.in-Some.ensures.said in
+    let f = claim_front c.args.claim.now c.in-Some.k d y in
+    let e = c.new-shape.ensures.sets ∙ c.from.ensures in
+    let over = c.in_default-work_out.ensures.worked_out d (rw e f) in
     judged_many c.args.claim.now c.args.most c.args.out.now _ (enough _ c.too_few.result c.too_few.ensures c.if-too_few.false)
-    c.in-Some.k d y (c.in_default-work_out.ensures d (claim_front c.args.claim.now c.in-Some.k d y))
+    c.in-Some.k d y (λ g. over (rw (e, c.new-shape.ensures.most) g))
 
 pub returns : goal.returns
 returns c =
     let (d, y) = c.in-Some.ensures.said in
-    let e : c.from.result ≡ c.in-Some.k = c.from.ensures in
-    let t : Stands Any c.in-Some.k c.args.most d c.work_out.new.rows c.work_out.new.accept c.in-Some-work_out.m = c.in-Some-work_out.ensures d (claim_front c.args.claim.now c.in-Some.k d y) in
+    let f = claim_front c.args.claim.now c.in-Some.k d y in
+    let e : c.new-shape.result.sets ≡ c.in-Some.k = c.new-shape.ensures.sets ∙ c.from.ensures in
+    let (shape, t) = c.in-Some-work_out.ensures.worked_out d (rw e f) in
+    let u = c.work_out.new.sheet in
+    let x = c.table.ensures in
+    let fits : Fits c.in-Some.k c.args.most d = rw (← e, ← c.new-shape.ensures.most) (subst (λ z. Fits z.sets z.most d) shape (stands_fits Any u d c.in-Some-work_out.m t)) in
+    let s : c.table.result.sets ≡ c.in-Some.k = x.sets ∙ ap (λ z. z.sets) shape ∙ e in
     judged_answer c.args.claim.now c.args.most c.args.out.now _ (enough _ c.too_few.result c.too_few.ensures c.if-too_few.false)
-    c.in-Some.k d y c.answer.new.out t.1.fits c.answer.result
-    (subst (λ k. Answered k d c.args.out.now c.answer.new.out c.answer.result) e
-    (c.answer.ensures d (subst (λ k. Stands Any k c.args.most d c.work_out.new.rows c.work_out.new.accept c.in-Some-work_out.m) (sym e) t)))
+    c.in-Some.k d y c.answer.new.out fits c.answer.result
+    (subst (λ k. Answered k d c.args.out.now c.answer.new.out c.answer.result) s
+    (c.answer.ensures d (rw (x.sets, x.classes, x.width, x.rows, x.accept) (stands_table Any u d c.in-Some-work_out.m t))))
