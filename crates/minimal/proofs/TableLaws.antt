@@ -1,11 +1,7 @@
 -- Rows and acceptance of a table, taken out of the memory that it lies in.
-use Rattle.std.proofs.Common.{◌≡◌, ℕ, ◌+◌, ◌-◌, ◌*◌, ◌^◌, ◌<◌, ◌≤◌, Bool, false, ◌==◌, List, [], length, get_or, take, drop, map, sym, refl, ap, ◌∙◌, subst, append-nil, arith, get_or-take}
+use Rattle.std.proofs.Common.{◌≡◌, ℕ, ◌+◌, ◌-◌, ◌*◌, ◌^◌, ◌<◌, ◌≤◌, Bool, false, ◌==◌, List, [], length, get_or, take, drop, map, sym, refl, ap, ◌∙◌, subst, append-nil, arith, get_or-take, pow_pos, pow_mono}
 use Rattle.std.proofs.lemmas.List.{get_or-map, length-take-le}
 use Rattle.tables.specs.Cells.{entry, column, accepts}
-use Rattle.tables.specs.View.{moves, accepting}
-use Rattle.tables.specs.declared.cells.WordTable.{WordTable}
-use Rattle.claims.specs.Claims.{C}
-use Rattle.automata.specs.Worked.{Worked}
 use Rattle.tables.proofs.CellsLaws.{copied_entry, row_entry}
 
 -- W is the width, as the code has it
@@ -21,11 +17,6 @@ copied_accept from to m q e r h =
     let l = length-take-le m from r in
     ap (λ xs. get_or xs q false) e ∙ get_or-map (λ x. x == 1) (take m from) q 0 false (omega arith) ∙ ap (λ x. x == 1) (get_or-take m from q 0 h)
 
--- the exact table that stands in memory, as a table that is read
-pub worked_table : (k n : ℕ) (c : C) (rows accept : List ℕ) (m : ℕ) (t : WordTable) → t.table.rows.now ≡ rows → t.table.accept.now ≡ accept → t.table.classes ≡ m → t.sets ≡ k → Worked k n c m (entry rows (2 ^ k)) (accepts accept) → Worked t.sets n c t.table.classes (moves t.table) (accepting t.table)
-worked_table k n c rows accept m t er ea em ek w =
-    let by_rows = subst (λ (r : List ℕ). Worked k n c m (entry r (2 ^ k)) (accepts accept)) (sym er) w in
-    let by_accept = subst (λ (a : List ℕ). Worked k n c m (entry t.table.rows.now (2 ^ k)) (accepts a)) (sym ea) by_rows in
-    let by_classes = subst (λ (j : ℕ). Worked k n c j (entry t.table.rows.now (2 ^ k)) (accepts t.table.accept.now)) (sym em) by_accept in
-    let by_sets = subst (λ (j : ℕ). Worked j n c t.table.classes (entry t.table.rows.now (2 ^ j)) (accepts t.table.accept.now)) (sym ek) by_classes in
-    subst (λ (w : ℕ). Worked t.sets n c t.table.classes (entry t.table.rows.now w) (accepts t.table.accept.now)) (sym t.wide) by_sets
+-- of at most twelve sets there are at most 4096 columns, and one at least
+pub columns_few : (k : ℕ) → k ≤ 12 → (2 ^ k ≤ 4096) × (0 < 2 ^ k)
+columns_few k h = let p : 2 ^ k ≤ 2 ^ 12 = pow_mono h in let q = pow_pos k in (omega arith, omega arith)

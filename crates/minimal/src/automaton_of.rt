@@ -5,18 +5,21 @@ ghost use Rattle.automata.specs.Worked.{Worked};
 ghost use Rattle.tables.specs.Cells.{entry};
 ghost use Rattle.tables.specs.View.{moves, accepting};
 ghost use Rattle.minimal.specs.Minimal.{Made, Minimal, Refused};
+ghost use Rattle.workspace.specs.Cut.{slot_words};
 
 use crate::automaton::Automaton;
 use crate::in_order::in_order;
 use crate::refusal::Refusal;
 use claims::claim::claim_sets;
-use workspace::cut::{Slot, Work, cut_slot, cut_work};
-use workspace::floor::floor;
-use workspace::largest::largest;
+use construct::wanted::Wanted;
+use construct::work::Work;
+use construct::work_out::work_out;
 use std::alloc::{AllocError, Global};
 use tables::cells::{Table, WordTable};
-use construct::wanted::Wanted;
-use construct::construct::work_out;
+use tables::sheet::{Shape, Sheet};
+use workspace::cut::{Slot, cut_slot};
+use workspace::floor::floor;
+use workspace::largest::largest;
 
 // A table of m classes in lent memory, over words of k sets.
 fn table<'x>(k: u32, rows: &'x [u32], accept: &'x [u32], m: usize) -> WordTable<'x>
@@ -46,8 +49,8 @@ fn smallest(
 ) -> Result<Automaton, AllocError>
     requires some { 0 < t.table.classes }
     requires few { t.table.classes < 2 ^ 32 }
-    requires scratch { 12 * t.table.width + 96 * (t.table.classes + 1) ≤ length scratch.old }
-    requires free { t.table.classes * t.table.width + t.table.classes ≤ length free.old }
+    requires scratch { 4 * t.table.classes ≤ length scratch.old }
+    requires free { slot_words t.table.width t.table.classes ≤ length free.old }
     ensures { IfOk result (λ s. (n : ℕ) (c : C) → Worked t.entry.sets n c t.entry.table.classes (moves t.entry.table) (accepting t.entry.table) → Minimal t.entry.sets c s) }
 {
     let Slot { rows, accept, .. } = cut_slot(free, t.table.width, t.table.classes);
@@ -68,29 +71,20 @@ pub fn automaton_of(alloc: Global, claim: &[u8], most: u32) -> Result<Automaton,
     if n == 0 {
         return Err(Refusal::TooLarge(0));
     }
-    let width = 1usize << k;
     let most = n as usize;
-    let mut work = vec![in alloc; 0u32; floor(claim, n) as usize]?;
-    let Work {
+    let shape = Shape::new(most, u32::from(k));
+    let mut words = vec![in alloc; 0u32; floor(claim, n) as usize]?;
+    let Slot { rows, accept, rest } = cut_slot(&mut words, shape.width, most);
+    let mut sheet = Sheet {
         rows,
         accept,
-        free,
-        scratch,
-        pairs,
-    } = cut_work(&mut work, width, most);
-    let Some(m) = work_out(
-        &claim[1..],
-        Wanted::Exact,
-        k,
-        most,
-        rows,
-        accept,
-        free,
-        scratch,
-        pairs,
-    ) else {
+        shape,
+    };
+    let mut work = Work::cut(shape, rest);
+    let Some(m) = work_out(&claim[1..], Wanted::Exact, &mut sheet, &mut work) else {
         return Err(Refusal::TooLarge(n));
     };
-    let automaton = smallest(alloc, table(u32::from(k), rows, accept, m), scratch, free)?;
+    let (scratch, free) = (work.scratch, work.free);
+    let automaton = smallest(alloc, sheet.table(m), scratch, free)?;
     Ok(automaton)
 }

@@ -8,7 +8,6 @@ ghost use Rattle.minimal.specs.Minimal.{Smallest};
 
 use shortest::search::{Found, search};
 use minimize::quotient::quotient;
-use workspace::cut::{Scratch, cut_scratch};
 use tables::cells::{Table, WordTable};
 
 // Clears the acceptance of the first `classes` classes.
@@ -26,7 +25,7 @@ fn clear(accept: &mut [u32], classes: usize)
 pub fn in_order(t: WordTable, scratch: &mut [u32], rows: &mut [u32], accept: &mut [u32]) -> usize
     requires some { 0 < t.table.classes }
     requires few { t.table.classes < 2 ^ 32 }
-    requires scratch { 12 * t.table.width + 96 * (t.table.classes + 1) ≤ length scratch.old }
+    requires scratch { 4 * t.table.classes ≤ length scratch.old }
     requires rows { t.table.classes * t.table.width ≤ length rows.old }
     requires accept { t.table.classes ≤ length accept.old }
     ensures few { result ≤ t.entry.table.classes }
@@ -34,13 +33,10 @@ pub fn in_order(t: WordTable, scratch: &mut [u32], rows: &mut [u32], accept: &mu
     ensures smallest { (n : ℕ) (c : C) → Worked t.entry.sets n c t.entry.table.classes (moves t.entry.table) (accepting t.entry.table) → Smallest t.entry.sets c result (entry rows.new t.entry.table.width) (accepts accept.new) }
 {
     let classes = t.table.classes;
-    let Scratch {
-        a: queue,
-        b: number,
-        c: prev,
-        d: via,
-        ..
-    } = cut_scratch(scratch, t.table.width, classes);
+    let (queue, rest) = scratch.split_at_mut(classes);
+    let (number, rest) = rest.split_at_mut(classes);
+    let (prev, rest) = rest.split_at_mut(classes);
+    let (via, _) = rest.split_at_mut(classes);
     clear(accept, classes);
     let unsorted = WordTable {
         table: Table {

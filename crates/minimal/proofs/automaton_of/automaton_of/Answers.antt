@@ -1,13 +1,12 @@
-use Rattle.std.proofs.Common.{◌≡◌, ◌+◌, ◌*◌, ◌%◌, ◌^◌, ◌≤◌, ◌<◌, length, ◌∙◌, subst, arith}
-use Rattle.std.proofs.lemmas.Nat.{one_shl}
+use Rattle.std.proofs.Common.{◌≡◌, ◌+◌, ◌*◌, ◌^◌, ◌≤◌, ◌<◌, length, sym, ap, ◌∙◌, subst, arith}
+use Rattle.claims.specs.Sizes.{Fits}
 use Rattle.workspace.specs.Floor.{floor_words}
 use Rattle.lengths.proofs.JudgeLaws.{claim_few, claim_front, lent_whole, work_enough}
 use Rattle.construct.specs.declared.wanted.Wanted.TheVariants.{Exact}
-use Rattle.construct.specs.Working.{Stands}
-use Rattle.construct.proofs.WorkingLaws.{columns_few, fits_none}
+use Rattle.construct.proofs.LentLaws.{whole_room}
+use Rattle.construct.proofs.StandsLaws.{fits_none, stands_exact, stands_fits}
 use Rattle.minimal.specs.Minimal.{Minimal}
-use Rattle.minimal.proofs.MadeLaws.{made}
-use Rattle.minimal.proofs.TableLaws.{worked_table}
+use Rattle.minimal.proofs.MadeLaws.{made, too_many}
 use Rattle.minimal.proofs.automaton_of.automaton_of.Goals as goal
 
 pub returns-then-n-eq0 : goal.returns-then-n-eq0
@@ -21,22 +20,40 @@ returns-then-n-eq0 c =
       memory = subst (λ n. n < c.args.most → 1048576 < floor_words c.args.claim.now (n + 1) + 4 * (n + 1)) c.if-n-eq0.true largest;
     }
 
-pub cut_work-rows-requires : goal.cut_work-rows-requires
-cut_work-rows-requires c =
+pub cut_slot-rows-requires-clause-room : goal.cut_slot-rows-requires-clause-room
+cut_slot-rows-requires-clause-room c =
     let (d, y) = c.in-Some.ensures.said in
-    let (l, h, b) = claim_few c.args.claim.now c.in-Some.k d y in
-    let w : (1 * 2 ^ c.in-Some.k) % 2 ^ 64 ≡ 2 ^ c.in-Some.k = one_shl c.in-Some.k 64 (omega arith) in
-    let (p, q) = columns_few c.in-Some.k h in
-    let memory : floor_words c.args.claim.now c.largest-n.result ≤ length c.deref_mut.result.now = omega (arith, c.deref_mut.ensures.len, c.in_ok-work.ensures.len, c.floor.ensures, c.largest-n.ensures.fits) in
-    (work_enough c.args.claim.now c.in-Some.k d c.largest-n.result _ _ y w (λ z. (let f : ⊥ = omega arith in f)), omega arith, omega arith, omega arith, omega arith)
+    let h = c.new-shape.result in
+    let wide = h.wide ∙ ap (λ k. 2 ^ k) (c.new-shape.ensures.sets ∙ c.from.ensures) in
+    let memory : floor_words c.args.claim.now c.largest-n.result ≤ length c.deref_mut.result.now = omega (arith, c.deref_mut.ensures.len, c.in_ok-words.ensures.len, c.floor.ensures, c.largest-n.ensures.fits) in
+    let w = whole_room c.largest-n.result h.width (length c.deref_mut.result.now) (work_enough c.args.claim.now c.in-Some.k d c.largest-n.result (length c.deref_mut.result.now) h.width y wide (λ z. (let f : ⊥ = omega arith in f))) in
+    omega (arith, w)
 
-pub work_out-requires-clause-lent : goal.work_out-requires-clause-lent
-work_out-requires-clause-lent c =
+pub cut-work-requires-clause-words : goal.cut-work-requires-clause-words
+cut-work-requires-clause-words c =
+    let (d, y) = c.in-Some.ensures.said in
+    let h = c.new-shape.result in
+    let wide = h.wide ∙ ap (λ k. 2 ^ k) (c.new-shape.ensures.sets ∙ c.from.ensures) in
+    let memory : floor_words c.args.claim.now c.largest-n.result ≤ length c.deref_mut.result.now = omega (arith, c.deref_mut.ensures.len, c.in_ok-words.ensures.len, c.floor.ensures, c.largest-n.ensures.fits) in
+    let w = whole_room c.largest-n.result h.width (length c.deref_mut.result.now) (work_enough c.args.claim.now c.in-Some.k d c.largest-n.result (length c.deref_mut.result.now) h.width y wide (λ z. (let f : ⊥ = omega arith in f))) in
+    rw c.new-shape.ensures.most (omega (arith, w, c.cut_slot-rows.ensures.rest))
+
+pub work_out-requires : goal.work_out-requires
+work_out-requires c =
     let (d, y) = c.in-Some.ensures.said in
     let (l, h, b) = claim_few c.args.claim.now c.in-Some.k d y in
-    let w : (1 * 2 ^ c.in-Some.k) % 2 ^ 64 ≡ 2 ^ c.in-Some.k = one_shl c.in-Some.k 64 (omega arith) in
-    let r = c.cut_work-rows.ensures in
-    lent_whole _ c.in-Some.k c.largest-n.result _ _ _ _ _ _ w b r.rows r.accept r.free r.scratch r.pairs
+    record {
+      part = (d, rw (c.new-shape.ensures.sets ∙ c.from.ensures) (claim_front c.args.claim.now c.in-Some.k d y));
+      shape = sym c.cut-work.ensures.shape;
+      lent = lent_whole _ _ _ b (rw c.cut-work.ensures.shape c.cut-work.ensures.free);
+    }
+
+pub returns-in_default-work_out : goal.returns-in_default-work_out
+returns-in_default-work_out c =
+    let (d, y) = c.in-Some.ensures.said in
+    let e : c.new-shape.result.sets ≡ c.in-Some.k = c.new-shape.ensures.sets ∙ c.from.ensures in
+    let over = c.in_default-work_out.ensures.worked_out d (rw e (claim_front c.args.claim.now c.in-Some.k d y)) in
+    too_many c.args.claim.now c.args.most c.largest-n.result c.in-Some.k d y (λ g. over (rw (e, c.new-shape.ensures.most) g)) c.largest-n.ensures.within c.largest-n.ensures.largest
 
 pub returns : goal.returns
 returns c =
@@ -45,10 +62,11 @@ returns c =
     let k = c.in-Some.k in
     let n = c.largest-n.result in
     let t = c.in_ok-automaton.automaton in
-    let stands : Stands Exact k n d c.work_out.new.rows c.work_out.new.accept c.in-Some-work_out.m = c.in-Some-work_out.ensures d (claim_front s k d y) in
-    let (words, ends) = c.table.ensures.words in
-    let (classes, width, sets) = c.table.ensures.size in
-    let same : c.table.result.sets ≡ k = sets ∙ c.from.ensures in
-    let worked = worked_table k n d c.work_out.new.rows c.work_out.new.accept c.in-Some-work_out.m c.table.result words ends classes same stands.1 in
-    let minimal : Minimal k d t = subst (λ j. Minimal j d t) same (c.in_ok-automaton.ensures n d worked) in
-    made s c.args.most n k d y t minimal stands.1.fits c.largest-n.ensures.within
+    let e : c.new-shape.result.sets ≡ k = c.new-shape.ensures.sets ∙ c.from.ensures in
+    let (shape, x) = c.in-Some-work_out.ensures.worked_out d (rw e (claim_front s k d y)) in
+    let u = c.work_out.new.sheet in
+    let same : c.table.result.sets ≡ k = c.table.ensures.sets ∙ ap (λ z. z.sets) shape ∙ e in
+    let worked = stands_exact u d c.in-Some-work_out.m x c.table.result c.table.ensures in
+    let fits : Fits k n d = rw (← e, ← c.new-shape.ensures.most) (subst (λ z. Fits z.sets z.most d) shape (stands_fits Exact u d c.in-Some-work_out.m x)) in
+    let minimal : Minimal k d t = subst (λ j. Minimal j d t) same (c.in_ok-automaton.ensures u.shape.most d worked) in
+    made s c.args.most n k d y t minimal fits c.largest-n.ensures.within

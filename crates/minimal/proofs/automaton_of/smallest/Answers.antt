@@ -2,12 +2,12 @@ use Rattle.std.proofs.Common.{sym, ap, ◌∙◌, subst, arith}
 use Rattle.tables.specs.Cells.{entry, accepts}
 use Rattle.minimal.specs.Minimal.{Smallest}
 use Rattle.minimal.specs.View.{leads, accepts as s_accepts}
-use Rattle.construct.proofs.WorkingLaws.{columns_few}
+use Rattle.minimal.proofs.TableLaws.{columns_few}
 use Rattle.minimal.proofs.OrderLaws.{smallest_same}
 use Rattle.minimal.proofs.automaton_of.smallest.Goals as goal
 
-pub cut_slot-rows-requires : goal.cut_slot-rows-requires
-cut_slot-rows-requires c = let (p, q) = columns_few c.args.t.sets c.args.t.narrow in (omega arith, omega arith, omega arith)
+pub cut_slot-rows-requires-clause-width : goal.cut_slot-rows-requires-clause-width
+cut_slot-rows-requires-clause-width c = let (p, q) = columns_few c.args.t.sets c.args.t.narrow in omega (arith, c.args.t.wide)
 
 pub returns : goal.returns
 returns c n d w =

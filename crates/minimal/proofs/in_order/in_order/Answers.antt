@@ -1,12 +1,8 @@
 use Rattle.std.proofs.Common.{◌≡◌, ℕ, ◌^◌, ◌<◌, ◌==◌, true, get_or, sym, ap, ◌∙◌, arith}
 use mathlib.Core.Bool.{false≢true}
 use Rattle.tables.specs.Cells.{entry, accepts}
-use Rattle.construct.proofs.WorkingLaws.{columns_few}
 use Rattle.minimal.proofs.OrderLaws.{smallest, written_below}
 use Rattle.minimal.proofs.in_order.in_order.Goals as goal
-
-pub cut_scratch-queue-requires : goal.cut_scratch-queue-requires
-cut_scratch-queue-requires c = let (p, q) = columns_few c.args.t.sets c.args.t.narrow in (omega arith, omega arith, omega arith, omega arith, omega arith)
 
 pub returns-clause-below : goal.returns-clause-below
 returns-clause-below c q a hq ha =
