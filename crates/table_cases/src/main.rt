@@ -7,19 +7,19 @@
 //     E: a 1 behind a 0. Classes 0, 2 and 1: none yet, a 0, both; so the classes are found in another order than that of their numbers.
 #![tactic(auto)]
 
+mod atom_case;
 mod checked;
 mod combined;
 mod found;
 mod joined;
-mod leaf_case;
 mod listing;
 mod projected;
 
+use atom_case::atom_case;
 use checked::is_table;
 use combined::{complement_case, product_case};
 use found::search_case;
 use joined::join_case;
-use leaf_case::leaf_case;
 use projected::{beyond_case, subsets_case};
 use std::io;
 
@@ -36,11 +36,11 @@ fn refused_case(rt: &HostRuntime) -> io::Result<()> {
 fn project_cases(rt: &HostRuntime) -> io::Result<()> {
     beyond_case(rt, &[0, 1, 1, 1], &[0, 1], 2)?;
     beyond_case(rt, &[0, 1, 1, 2, 2, 2], &[0, 1, 0], 3)?;
-    subsets_case(rt, &[0, 1, 1, 1], &[0, 1], 2, &[1, 1], 2, 8)?;
-    subsets_case(rt, &[0, 1, 1, 2, 2, 2], &[0, 1, 0], 3, &[1, 1, 0], 2, 8)?;
-    subsets_case(rt, &[0, 1, 1, 2, 2, 2], &[0, 1, 0], 3, &[1, 1, 0], 3, 8)?;
-    subsets_case(rt, &[1, 1, 0, 1], &[0, 1], 2, &[0, 1], 2, 8)?;
-    subsets_case(rt, &[1, 1, 0, 1], &[0, 1], 2, &[0, 1], 2, 2)
+    subsets_case(rt, &[0, 1, 1, 1], &[0, 1], 2, &[1, 1], None, 8)?;
+    subsets_case(rt, &[0, 1, 1, 2, 2, 2], &[0, 1, 0], 3, &[1, 1, 0], Some(2), 8)?;
+    subsets_case(rt, &[0, 1, 1, 2, 2, 2], &[0, 1, 0], 3, &[1, 1, 0], None, 8)?;
+    subsets_case(rt, &[1, 1, 0, 1], &[0, 1], 2, &[0, 1], None, 8)?;
+    subsets_case(rt, &[1, 1, 0, 1], &[0, 1], 2, &[0, 1], None, 2)
 }
 
 // Of B and E, and of a table that accepts every word.
@@ -58,8 +58,8 @@ fn run(rt: &HostRuntime) -> anyhow::Result<()> {
     project_cases(rt)?;
     join_case(rt)?;
     search_cases(rt)?;
-    leaf_case(rt, 4)?;
-    leaf_case(rt, 2)?;
+    atom_case(rt, 4)?;
+    atom_case(rt, 2)?;
     Ok(())
 }
 

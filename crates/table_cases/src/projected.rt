@@ -3,9 +3,12 @@ ghost use Rattle.std.specs.Prelude.{◌<◌, ◌≤◌, length};
 
 use crate::checked::{is_table, table};
 use crate::listing::{Listed, Listing, first_of};
-use live::beyond::beyond;
+use live::beyond::{Backward, beyond};
+use project::memory::Sets;
+use project::projection::Projection;
+use project::subsets::subsets;
 use std::io;
-use project::projection::subsets;
+use tables::sheet::{Shape, Sheet};
 use words::bits::Set;
 
 // The classes that are completed: 1 for each.
@@ -21,19 +24,9 @@ pub fn beyond_case<'a>(
         return println!(rt; "beyond: no table");
     }
     let t = table(rows, accept, classes, 1);
-    let (mut completed, mut queue) = ([7u32; 64], [7u32; 64]);
-    let (mut heads0, mut links0) = ([7u32; 64], [7u32; 64]);
-    let (mut heads1, mut links1) = ([7u32; 64], [7u32; 64]);
-    beyond(
-        t,
-        Set(0),
-        &mut completed,
-        &mut heads0,
-        &mut links0,
-        &mut heads1,
-        &mut links1,
-        &mut queue,
-    );
+    let (mut completed, mut scratch) = ([7u32; 64], [7u32; 64]);
+    let mut backward = Backward::cut(8, &mut scratch);
+    beyond(t, Set(0), &mut completed, &mut backward);
     let completed = Listed(first_of(&completed, classes));
     println!(rt; "beyond:{completed}")
 }
@@ -45,7 +38,7 @@ pub fn subsets_case<'a>(
     accept: &'a [u32],
     classes: usize,
     completed: &[u32],
-    dead: usize,
+    dead: Option<usize>,
     most: usize,
 ) -> io::Result<()>
     requires { (classes ≤ most) × ((most ≤ 8) × (classes ≤ length completed.now)) }
@@ -55,25 +48,33 @@ pub fn subsets_case<'a>(
     }
     let t = table(rows, accept, classes, 1);
     let (mut new_rows, mut new_accept) = ([7u32; 64], [7u32; 64]);
-    let (mut sets, mut heads) = ([7u32; 64], [7u32; 4]);
+    let (mut words, mut heads) = ([7u32; 64], [7u32; 4]);
     let (mut links, mut buckets) = ([7u32; 64], [7u32; 64]);
-    match subsets(
-        t,
-        Set(0),
-        dead,
-        completed,
+    let mut sheet = Sheet {
+        rows: &mut new_rows,
+        accept: &mut new_accept,
+        shape: Shape::new(most, 1),
+    };
+    let mut sets = Sets {
+        part: Projection {
+            t,
+            x: Set(0),
+            dead,
+            completed,
+            w: 1,
+        },
         most,
-        &mut new_rows,
-        &mut new_accept,
-        &mut sets,
-        &mut heads,
-        &mut links,
-        &mut buckets,
-    ) {
+        sets: &mut words,
+        heads: &mut heads,
+        links: &mut links,
+        buckets: &mut buckets,
+    };
+    match subsets(&mut sets, &mut sheet) {
         Some(count) => {
+            let (rows, accept) = (sheet.rows, sheet.accept);
             let listing = Listing {
-                rows: &new_rows,
-                accept: &new_accept,
+                rows,
+                accept,
                 classes: count,
             };
             println!(rt; "subsets, at most {most}: {listing}")

@@ -1,0 +1,36 @@
+// The table of a claim without parts, and its dead class.
+ghost use Rattle.std.specs.Prelude.{◌≤◌};
+
+use crate::listing::Listing;
+use atoms::atom_table::atom_table;
+use claims::atom::Atom;
+use live::dead::dead;
+use std::io;
+use tables::sheet::{Shape, Sheet};
+
+// The claim that set 0 has exactly one place, which is C, with at most `most` classes.
+pub fn atom_case(rt: &HostRuntime, most: usize) -> io::Result<()>
+    requires { most ≤ 8 }
+{
+    let (mut rows, mut accept, mut scratch) = ([7u32; 64], [7u32; 64], [7u32; 192]);
+    let mut sheet = Sheet {
+        rows: &mut rows,
+        accept: &mut accept,
+        shape: Shape::new(most, 1),
+    };
+    let Some(classes) = atom_table(Atom::Single(0), &mut scratch, &mut sheet) else {
+        return println!(rt; "leaf, at most {most}: more");
+    };
+    let dead = dead(sheet.table(classes));
+    let (rows, accept) = (sheet.rows, sheet.accept);
+    let listing = Listing {
+        rows,
+        accept,
+        classes,
+    };
+    println!(rt; "leaf, at most {most}: {listing}")?;
+    match dead {
+        Some(q) => println!(rt; "dead: {q}"),
+        None => println!(rt; "dead: none"),
+    }
+}
