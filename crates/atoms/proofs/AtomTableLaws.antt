@@ -1,6 +1,5 @@
 -- From the table of a machine's states, joined, to the exact table of the claim, or that it does not fit.
-use Rattle.std.proofs.Common.{◌≡◌, ℕ, ◌<◌, ◌≤◌, Option, None, Some, sym, ap, ◌∙◌, MatchOption}
-use Rattle.automata.specs.Worked.{Worked}
+use Rattle.std.proofs.Common.{◌≡◌, ℕ, Option, None, Some, MatchOption}
 use Rattle.automata.proofs.Working.{worked_leaf, many_leaf}
 use Rattle.claims.specs.Atoms.{atom}
 use Rattle.claims.specs.Sizes.{Fits}

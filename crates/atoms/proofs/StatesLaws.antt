@@ -1,5 +1,5 @@
 -- The search for the states of a machine: each step stays among them, and there are no more than nine.
-use Rattle.std.proofs.Common.{◌≡◌, ℕ, ◌+◌, ◌<◌, ◌≤◌, ◌≢◌, List, length, get_or, set, take, ◌∙◌, subst, sym, inl, inr, arith, below_more}
+use Rattle.std.proofs.Common.{◌≡◌, ℕ, ◌<◌, ◌≤◌, ◌≢◌, List, length, get_or, set, take, ◌∙◌, subst, sym, inl, inr, arith, below_more}
 use Rattle.std.proofs.lemmas.List.{get_or-set_same, get_or-set_other, get_or-take, length-take-le}
 use Rattle.automata.specs.Machines.{machine, moves}
 use Rattle.automata.proofs.Counting.{pigeon_below}

@@ -44,4 +44,4 @@ module _ {h : Shape} (s : Sheet) (e : s.shape ≡ h) {c d : C} {m : ℕ} (t : St
         let g : s.shape.most ≡ h.most = ap (λ z. z.most) e in
         let few : o ≤ h.most = rw (← (ap (λ z. z.most) shape)) z.few in
         rw (tabled_sets z wide r shows, g) (shown_and a.sets h.most c d a.table.classes b.table.classes (moves a.table) (moves b.table) (accepting a.table) (accepting b.table) left (rw (← same) right)
-            r.table.classes z.at (moves r.table) (accepting r.table) (rw (← (tabled_sets z wide r shows)) (tabled_explored z wide r shows)) (rw shows.classes few) (tabled_accepted z wide r shows))
+        r.table.classes z.at (moves r.table) (accepting r.table) (rw (← (tabled_sets z wide r shows)) (tabled_explored z wide r shows)) (rw shows.classes few) (tabled_accepted z wide r shows))

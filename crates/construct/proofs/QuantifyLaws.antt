@@ -58,4 +58,4 @@ module _ (s : Sheet) {c : C} {m : ℕ} (t : Stands Exact s c m) (p : WordTable) 
       some_shown =
           let few : o ≤ h.most = rw (← (ap (λ z. z.most) shape)) z.few in
           rw (tabled_sets z wide r shows) (shown_some p.sets s.shape.most y c p.table.classes (moves p.table) (accepting p.table) part inside (lives p.table.classes dead) (lives_below p.table.classes dead) live
-              r.table.classes z.at (moves r.table) (accepts completed) (accepting r.table) (rw (← (tabled_sets z wide r shows)) (tabled_explored z wide r shows)) (rw (shows.classes, most) few) beyond (tabled_accepted z wide r shows))
+          r.table.classes z.at (moves r.table) (accepts completed) (accepting r.table) (rw (← (tabled_sets z wide r shows)) (tabled_explored z wide r shows)) (rw (shows.classes, most) few) beyond (tabled_accepted z wide r shows))

@@ -1,5 +1,5 @@
 -- The parts of a claim by its sign, from the claim that the bytes are.
-use Rattle.std.proofs.Common.{◌≡◌, ℕ, ◌+◌, ◌-◌, ◌*◌, ◌<◌, ◌≤◌, T, List, [], ◌∷◌, ◌++◌, length, take, sym, refl, ap, ◌∙◌, subst, inl, inr, append-nil, arith, ltb→lt, length-append}
+use Rattle.std.proofs.Common.{◌≡◌, ℕ, ◌+◌, ◌-◌, ◌<◌, ◌≤◌, T, List, [], ◌∷◌, ◌++◌, length, take, sym, refl, ap, ◌∙◌, subst, inl, inr, append-nil, arith, ltb→lt, length-append}
 use Rattle.std.proofs.lemmas.List.{take_at}
 use Rattle.claims.specs.Claims.{C, and1, before, next, not1, single, some, within}
 use Rattle.claims.specs.Atoms.{atom, Named}

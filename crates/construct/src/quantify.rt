@@ -64,11 +64,5 @@ pub fn quantify(
         buckets,
     };
     let count = subsets(&mut sets, &mut projected)?;
-    Some(hand_on(
-        projected.table(count),
-        wanted,
-        scratch,
-        pairs,
-        sheet,
-    ))
+    Some(hand_on(projected.table(count), wanted, scratch, pairs, sheet))
 }

@@ -165,13 +165,7 @@ fn lone(x: Set, sets: u32) -> u32
 }
 
 // Marks all classes that go by a column without or with x to the class at place i of the queue. The queue's new tail.
-fn mark_behind(
-    behind: Behind,
-    marks: &mut [u32],
-    queue: &mut [u32],
-    tail: usize,
-    i: usize,
-) -> usize
+fn mark_behind(behind: Behind, marks: &mut [u32], queue: &mut [u32], tail: usize, i: usize) -> usize
     requires place { i < tail }
     requires marking { Marking behind.x.0 behind.table.classes (moves behind.table) (accepting behind.table) marks.old queue.old tail i }
     ensures { Marking behind.entry.x.0 behind.entry.table.classes (moves behind.entry.table) (accepting behind.entry.table) marks.new queue.new result (i + 1) }

@@ -6,8 +6,8 @@ ghost use Rattle.tables.specs.Cells.{entry, accepts};
 ghost use Rattle.tables.specs.View.{moves, accepting};
 ghost use Rattle.minimal.specs.Minimal.{Smallest};
 
-use shortest::search::{Found, search};
 use minimize::quotient::quotient;
+use shortest::search::{Found, search};
 use tables::cells::{Table, WordTable};
 
 // Clears the acceptance of the first `classes` classes.

@@ -1,5 +1,5 @@
 -- The product of two tables: a class for each pair of classes that a word leads to.
-use Rattle.std.specs.Prelude.{ℕ, ◌+◌, Bool, ◌&&◌}
+use Rattle.std.specs.Prelude.{◌+◌, Bool, ◌&&◌}
 use Rattle.automata.specs.Product.{Pair, pair, left, right, step_pair}
 use Rattle.worklist.specs.Search.{Automaton, Memory}
 use Rattle.product.specs.declared.memory.Pairs.{Pairs}

@@ -1,6 +1,5 @@
 -- What finding a set leaves in memory.
-use Rattle.std.proofs.Common.{◌≡◌, ℕ, ◌+◌, ◌*◌, ◌<◌, ◌≤◌, List, Option, Some, None, sym, refl, ap, ◌∙◌, subst, inl, inr, arith, below_more, MatchOption}
-use Rattle.automata.specs.Subsets.{step_set}
+use Rattle.std.proofs.Common.{◌≡◌, ℕ, ◌<◌, List, Option, Some, None, sym, refl, ap, ◌∙◌, subst, inl, inr, arith, below_more, MatchOption}
 use Rattle.bitsets.specs.Bitrows.{has, row_at, member, Below}
 use Rattle.bitsets.specs.Intern.{Interned, Fresh, Again}
 use Rattle.bitsets.proofs.InternLaws.{interned_kept}

@@ -37,7 +37,15 @@ fn project_cases(rt: &HostRuntime) -> io::Result<()> {
     beyond_case(rt, &[0, 1, 1, 1], &[0, 1], 2)?;
     beyond_case(rt, &[0, 1, 1, 2, 2, 2], &[0, 1, 0], 3)?;
     subsets_case(rt, &[0, 1, 1, 1], &[0, 1], 2, &[1, 1], None, 8)?;
-    subsets_case(rt, &[0, 1, 1, 2, 2, 2], &[0, 1, 0], 3, &[1, 1, 0], Some(2), 8)?;
+    subsets_case(
+        rt,
+        &[0, 1, 1, 2, 2, 2],
+        &[0, 1, 0],
+        3,
+        &[1, 1, 0],
+        Some(2),
+        8,
+    )?;
     subsets_case(rt, &[0, 1, 1, 2, 2, 2], &[0, 1, 0], 3, &[1, 1, 0], None, 8)?;
     subsets_case(rt, &[1, 1, 0, 1], &[0, 1], 2, &[0, 1], None, 8)?;
     subsets_case(rt, &[1, 1, 0, 1], &[0, 1], 2, &[0, 1], None, 2)

@@ -1,5 +1,5 @@
 -- What the steps of a search keep.
-use Rattle.std.proofs.Common.{◌≡◌, ℕ, suc, ◌+◌, ◌*◌, ◌^◌, ◌<◌, ◌≤◌, List, length, sym, refl, ap, ◌∙◌, subst, inl, inr, add-one, arith}
+use Rattle.std.proofs.Common.{◌≡◌, ℕ, suc, ◌+◌, ◌^◌, ◌<◌, ◌≤◌, List, sym, refl, ap, ◌∙◌, subst, inl, inr, add-one, arith}
 use Rattle.automata.specs.Search.{Explored}
 use Rattle.tables.specs.Cells.{entry, put_entry, accepts}
 use Rattle.tables.specs.Search.{Searching}

@@ -1,9 +1,9 @@
-use Rattle.std.proofs.Common.{◌+◌, ◌*◌, ◌≤◌, length, refl, sym, ap, ◌∙◌, arith}
+use Rattle.std.proofs.Common.{◌+◌, ◌≤◌, refl, sym, ap, ◌∙◌, arith}
 use Rattle.std.proofs.lemmas.Nat.{mul-le}
 use Rattle.claims.specs.Claims.{and1}
 use Rattle.construct.specs.declared.wanted.Wanted.TheVariants.{Exact}
-use Rattle.construct.proofs.ConjoinLaws.{and_many, and_sets, and_shown}
-use Rattle.construct.proofs.StandsLaws.{stands_start, stands_below}
+use Rattle.construct.proofs.ConjoinLaws.{and_many, and_shown}
+use Rattle.construct.proofs.StandsLaws.{stands_start}
 use Rattle.construct.proofs.conjoin.conjoin.Goals as goal
 
 pub invariant_of-found-clause-same_sets : goal.invariant_of-found-clause-same_sets

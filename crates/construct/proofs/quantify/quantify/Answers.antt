@@ -1,9 +1,6 @@
-use Rattle.std.proofs.Common.{◌+◌, ◌*◌, ◌/◌, ◌≤◌, length, refl, sym, ap, ◌∙◌, arith}
-use Rattle.std.proofs.lemmas.Nat.{mul-le}
+use Rattle.std.proofs.Common.{refl}
 use Rattle.claims.specs.Claims.{some}
-use Rattle.construct.specs.declared.wanted.Wanted.TheVariants.{Exact}
-use Rattle.construct.proofs.QuantifyLaws.{part_connected, part_collapsed, some_many, some_sets, some_shown}
-use Rattle.construct.proofs.StandsLaws.{stands_start, stands_below}
+use Rattle.construct.proofs.QuantifyLaws.{some_many, some_shown}
 use Rattle.construct.proofs.quantify.quantify.Goals as goal
 
 pub returns-in_err-count-clause-table : goal.returns-in_err-count-clause-table

@@ -1,14 +1,13 @@
-use Rattle.std.proofs.Common.{◌≡◌, ◌+◌, ◌*◌, ◌≤◌, [], length, Some, sym, refl, ap, ◌∙◌, subst, arith}
+use Rattle.std.proofs.Common.{◌≡◌, ◌+◌, [], length, Some, sym, refl, ap, ◌∙◌, subst, arith}
 use Rattle.claims.proofs.SignLaws.{no_sign, sign_is}
 use Rattle.claims.specs.Claims.{and1, not1, some}
 use Rattle.claims.specs.Fronts.{Front}
 use Rattle.workspace.specs.Cut.{slot_words}
 use Rattle.construct.specs.Stands.{ExactOf}
 use Rattle.construct.specs.WorkOut.{Lent}
-use Rattle.construct.specs.declared.wanted.Wanted.TheVariants.{Exact}
 use Rattle.construct.proofs.LentLaws.{lent_shorter, lent_smaller, one_free, rest_free}
 use Rattle.construct.proofs.SignLaws.{and_parts, leaf_front, not_part, some_part}
-use Rattle.construct.proofs.StandsLaws.{out_of, result_from, stands_below, stands_exact}
+use Rattle.construct.proofs.StandsLaws.{out_of, result_from, stands_exact}
 use Rattle.construct.proofs.WorkOutLaws.{Unfit, and_out, atom_out, longer_unfit, not_result, part_unfit, shorter_unfit}
 use Rattle.construct.proofs.work_out.+work_out.Goals as goal
 

@@ -1,4 +1,4 @@
-use Rattle.std.proofs.Common.{◌≡◌, ◌+◌, ◌*◌, ◌^◌, ◌≤◌, sym, ap, ◌∙◌, subst, arith}
+use Rattle.std.proofs.Common.{◌≡◌, ◌^◌, sym, ap, ◌∙◌, subst, arith}
 use Rattle.claims.specs.Sizes.{Fits}
 use Rattle.lengths.specs.Answer.{Answered}
 use Rattle.construct.specs.declared.wanted.Wanted.TheVariants.{Any}

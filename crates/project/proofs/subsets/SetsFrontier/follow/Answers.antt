@@ -1,5 +1,4 @@
 use Rattle.std.proofs.Common.{◌≡◌, ℕ, Bool, false, ap, ◌∙◌, arith}
-use Rattle.bitsets.specs.Bitrows.{member}
 use Rattle.live.specs.Dead.{lives}
 use Rattle.tables.specs.Cells.{entry}
 use Rattle.words.specs.Bits.{put_bit}

@@ -1,4 +1,4 @@
-use Rattle.std.proofs.Common.{◌≡◌, ◌*◌, ◌%◌, ◌^◌, ◌≤◌, sym, arith, pow_pos, pow_mono}
+use Rattle.std.proofs.Common.{◌≡◌, ◌*◌, ◌%◌, ◌^◌, ◌≤◌, arith, pow_pos, pow_mono}
 use Rattle.std.proofs.lemmas.Nat.{one_shl}
 use Rattle.tables.proofs.sheet.Shape.new.Goals as goal
 
