@@ -16,14 +16,22 @@ fn find(found: &[u32], state: u32) -> Option<usize>
 impl Frontier for States {
     ghost Thing = { ℕ };
 
+    type Origin = u32;
+
     ghost seen = { states_of };
+
+    ghost Of = { λ state q. q ≡ state };
 
     fn begin(&mut self) {
         self.found[0] = start(self.atom);
     }
 
-    fn follow(&mut self, m: usize, i: usize, a: u32) -> usize {
-        let next = step(self.atom, self.found[i], a);
+    fn open(&self, _m: usize, i: usize) -> u32 {
+        self.found[i]
+    }
+
+    fn follow(&mut self, m: usize, _i: usize, origin: u32, a: u32) -> usize {
+        let next = step(self.atom, origin, a);
         match find(&self.found[..m], next) {
             Some(j) => j,
             None => {

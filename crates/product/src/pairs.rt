@@ -3,7 +3,7 @@
 ghost use Rattle.std.specs.Prelude.{◌≡◌, ◌<◌, ◌≤◌, MatchOption};
 ghost use Rattle.automata.specs.Product.{Pair};
 ghost use Rattle.worklist.specs.Search.{Tabled, Excess};
-ghost use Rattle.product.specs.Pairs.{both, pairs_of};
+ghost use Rattle.product.specs.Pairs.{IsPair, both, pairs_of};
 
 use crate::memory::Pairs;
 use tables::cells::Class;
@@ -14,7 +14,11 @@ use worklist::explore::{Frontier, explore};
 impl Frontier for Pairs<'_, '_, '_> {
     ghost Thing = { Pair };
 
+    type Origin = (Class, Class);
+
     ghost seen = { pairs_of };
+
+    ghost Of = { IsPair };
 
     fn begin(&mut self) {
         let sizes = Sizes {
@@ -32,14 +36,18 @@ impl Frontier for Pairs<'_, '_, '_> {
         );
     }
 
-    fn follow(&mut self, m: usize, i: usize, a: u32) -> usize {
+    fn open(&self, _m: usize, i: usize) -> (Class, Class) {
+        (Class(self.lefts[i]), Class(self.rights[i]))
+    }
+
+    fn follow(&mut self, m: usize, _i: usize, origin: (Class, Class), a: u32) -> usize {
         let (left, right) = (self.left.table, self.right.table);
         let sizes = Sizes {
             left: left.classes,
             right: right.classes,
         };
         let (lefts, rights, index) = (&mut *self.lefts, &mut *self.rights, &mut *self.index);
-        let (p, q) = (Class(lefts[i]), Class(rights[i]));
+        let (p, q) = origin;
         let (x, y) = (left.next(p, a), right.next(q, a));
         if let Some(j) = find_pair(lefts, rights, index, m, sizes, x, y) {
             return j;

@@ -46,7 +46,12 @@ fn next_set(p: &Projection, sets: &mut [u32], n: usize, i: usize, a: u32)
 impl Frontier for Sets<'_, '_, '_> {
     ghost Thing = { ℕ → Bool };
 
+    // A set is read where it stands.
+    type Origin = ();
+
     ghost seen = { sets_of };
+
+    ghost Of = { λ _ _. Unit {0} };
 
     fn begin(&mut self) {
         let p = self.part;
@@ -56,7 +61,9 @@ impl Frontier for Sets<'_, '_, '_> {
         let _ = intern(sets, p.w, 0, heads, links, buckets);
     }
 
-    fn follow(&mut self, m: usize, i: usize, a: u32) -> usize {
+    fn open(&self, _m: usize, _i: usize) {}
+
+    fn follow(&mut self, m: usize, i: usize, _origin: (), a: u32) -> usize {
         let p = self.part;
         let (sets, heads) = (&mut *self.sets, &mut *self.heads);
         let (links, buckets) = (&mut *self.links, &mut *self.buckets);

@@ -77,8 +77,8 @@ module _ {S : Type 0} {x : Memory S} {t : Sheet} {m i a : ℕ} (g : Going x t m 
         }
 
     module _ {y : Memory S} {j : ℕ} (f : Followed x y m i a j) where
-      pub old_number : (j ≡ m → ⊥) → j < m
-      old_number n = elim f.old_or_new [ inl h ↦ h | inr h ↦ absurd (n h.0) ]
+      pub new_number : m ≤ j → j ≡ m
+      new_number n = elim f.old_or_new [ inl h ↦ (let z : ⊥ = omega arith in absurd z) | inr h ↦ h.0 ]
 
       pub going_many : j ≡ t.shape.most → Excess x.automaton t.shape.most
       going_many e = elim f.old_or_new [

@@ -74,6 +74,11 @@ pub record Advanced {S : Type 0} (x y : Memory S) (t u : Sheet) (m n i a : ℕ) 
   pub same : Same x y t u
   pub going : Going y u n i a
 
+-- and the m things are what they were
+pub record Extended {S : Type 0} (x y : Memory S) (t u : Sheet) (m n i a : ℕ) : Type 0 where
+  pub advanced : Advanced x y t u m n i a
+  pub kept : (p : ℕ) → p < m → y.at p ≡ x.at p
+
 -- the sheet has the table of the automaton's things that are reached: m things, none of them twice
 pub record Tabled {S : Type 0} (x : Automaton S) (t u : Sheet) (m : ℕ) : Type 0 where
   pub at : ℕ → S

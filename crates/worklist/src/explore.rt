@@ -9,7 +9,7 @@
 // sheet has room for have one, more things than that are reached.
 ghost use Rattle.std.specs.Prelude.{◌≡◌, ℕ, ◌+◌, ◌^◌, ◌<◌, ◌≤◌, MatchOption};
 ghost use Rattle.tables.specs.Cells.{accepts};
-ghost use Rattle.worklist.specs.Search.{Memory, Begun, Ready, Inside, Followed, Going, Same, Advanced, Tabled, Excess};
+ghost use Rattle.worklist.specs.Search.{Memory, Begun, Ready, Inside, Followed, Going, Same, Advanced, Extended, Tabled, Excess};
 
 use tables::sheet::Sheet;
 
@@ -18,17 +18,29 @@ pub trait Frontier {
     /// What is found.
     ghost Thing: { Type 0 };
 
+    /// What of a thing its row needs at every column.
+    type Origin: Copy;
+
     /// The automaton, and the thing with each number.
     ghost seen: { Self → Memory Thing };
+
+    /// That this is what is needed of a thing.
+    ghost Of: { Self.Origin → Thing → Type 0 };
 
     /// Numbers the start, and forgets what was there.
     fn begin(&mut self)
         requires { 0 < (seen self.old).room }
         ensures { Begun (seen self.old) (seen self.new) };
 
+    /// What is needed of thing i, where m are numbered.
+    fn open(&self, m: usize, i: usize) -> Self::Origin
+        requires { Inside (seen self.now) m i }
+        ensures { Of result ((seen self.now).at i) };
+
     /// The number of the thing to which column a leads from thing i, where m are numbered: m itself if it is new.
-    fn follow(&mut self, m: usize, i: usize, a: u32) -> usize
-        requires { Ready (seen self.old) m i a }
+    fn follow(&mut self, m: usize, i: usize, origin: Self::Origin, a: u32) -> usize
+        requires ready { Ready (seen self.old) m i a }
+        requires origin { Of origin ((seen self.old).at i) }
         ensures { Followed (seen self.old) (seen self.new) m i a result };
 
     /// Whether thing i accepts, where m are numbered.
@@ -46,11 +58,19 @@ pub trait Frontier {
 }
 
 // Column a of row i: how many things are found then, or that they are too many.
-fn column<F: Frontier>(f: &mut F, t: &mut Sheet, m: usize, i: usize, a: u32) -> Option<usize>
+fn column<F: Frontier>(
+    f: &mut F,
+    t: &mut Sheet,
+    m: usize,
+    i: usize,
+    origin: F::Origin,
+    a: u32,
+) -> Option<usize>
     requires going { Going (F.seen f.old) t.old m i a }
     requires row { i < m }
+    requires origin { F.Of origin ((F.seen f.old).at i) }
     requires column { a < t.old.shape.width }
-    ensures { MatchOption result (Excess (F.seen f.old).automaton t.old.shape.most) (λ n. Advanced (F.seen f.old) (F.seen f.new) t.old t.new m n i (a + 1)) }
+    ensures { MatchOption result (Excess (F.seen f.old).automaton t.old.shape.most) (λ n. Extended (F.seen f.old) (F.seen f.new) t.old t.new m n i (a + 1)) }
 {
     let b = f.twin(a);
     if b < a {
@@ -58,23 +78,28 @@ fn column<F: Frontier>(f: &mut F, t: &mut Sheet, m: usize, i: usize, a: u32) -> 
         t.put(i, a, to);
         return Some(m);
     }
-    let j = f.follow(m, i, a);
-    if j == t.shape.most {
+    let j = f.follow(m, i, origin, a);
+    if j < m {
+        t.put(i, a, j);
+        return Some(m);
+    }
+    if m == t.shape.most {
         return None;
     }
-    t.put(i, a, j);
-    Some(if j == m { m + 1 } else { m })
+    t.put(i, a, m);
+    Some(m + 1)
 }
 
 // All columns of row i.
 fn row<F: Frontier>(f: &mut F, t: &mut Sheet, m: usize, i: usize) -> Option<usize>
     requires going { Going (F.seen f.old) t.old m i 0 }
     requires row { i < m }
-    ensures { MatchOption result (Excess (F.seen f.old).automaton t.old.shape.most) (λ n. Advanced (F.seen f.old) (F.seen f.new) t.old t.new m n (i + 1) 0) }
+    ensures { MatchOption result (Excess (F.seen f.old).automaton t.old.shape.most) (λ n. Extended (F.seen f.old) (F.seen f.new) t.old t.new m n (i + 1) 0) }
 {
+    let origin = f.open(m, i);
     let mut n = m;
     for a in 0..t.shape.width as u32 {
-        n = column(f, t, n, i, a)?;
+        n = column(f, t, n, i, origin, a)?;
     }
     Some(n)
 }

@@ -4,6 +4,7 @@ use Rattle.worklist.proofs.explore.row.Goals as goal
 
 pub returns : goal.returns
 returns g c =
-    let s = c.loop-a.invariant in
+    let e = c.loop-a.invariant in
+    let s = e.advanced in
     let wide : c.loop-a.t.shape.width ≡ c.args.t.now.shape.width = ap (λ s. s.width) s.same.shape in
-    record { more = s.more; same = s.same; going = going_row s.going (omega arith) }
+    record { advanced = record { more = s.more; same = s.same; going = going_row s.going (omega arith) }; kept = e.kept }
