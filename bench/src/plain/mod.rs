@@ -2,15 +2,15 @@
 //! classes for `some`, joining by splitting (by rounds where a table is small), first words by a search that ends once both are found.
 //! Nothing here is proved; it is there to see what the proved code costs against code that is written freely.
 
-mod firsts;
-mod joining;
-mod leaf;
+mod atoms;
+mod minimize;
 mod pairs;
 mod product;
+mod project;
 mod repeats;
 mod rounds;
+mod shortest;
 mod splitting;
-mod subsets;
 
 use ceivuron::Answer;
 use ceivuron::part::Part;
@@ -70,7 +70,7 @@ impl Plain {
             return Answer::Many;
         }
         match self.work_root(&part, u32::from(sets), most as usize) {
-            Some(table) => firsts::answer(&table),
+            Some(table) => shortest::answer(&table),
             None => Answer::Many,
         }
     }
@@ -80,8 +80,8 @@ impl Plain {
         match part {
             Part::Not(c) => Some(self.work_root(c, sets, most)?.complement()),
             Part::And(c, d) => self.conjoin(c, d, sets, most),
-            Part::Some(x, c) => self.project(*x, c, sets, most),
-            leaf => self.work_out(leaf, sets, most),
+            Part::Some(x, c) => self.quantify(*x, c, sets, most),
+            atom => self.work_out(atom, sets, most),
         }
     }
 
@@ -94,11 +94,11 @@ impl Plain {
                 Some(self.join(&table))
             }
             Part::Some(x, c) => {
-                let table = self.project(*x, c, sets, most)?;
+                let table = self.quantify(*x, c, sets, most)?;
                 Some(self.join(&table))
             }
-            leaf => {
-                let states = leaf::explore(leaf, sets);
+            atom => {
+                let states = atoms::explore(atom, sets);
                 self.found += states.classes();
                 let table = self.join(&states);
                 (table.classes() <= most).then_some(table)
@@ -107,7 +107,7 @@ impl Plain {
     }
 
     fn join(&mut self, table: &Table) -> Table {
-        joining::join(table, &mut self.pairs)
+        minimize::join(table, &mut self.pairs)
     }
 
     /// The pairs of classes of two parts, not joined. The longer part is worked out first, as the call does it.
@@ -121,9 +121,9 @@ impl Plain {
     }
 
     /// The sets of classes of a part that are reached whatever set x is, not joined.
-    fn project(&mut self, x: u8, c: &Part, sets: u32, most: usize) -> Option<Table> {
+    fn quantify(&mut self, x: u8, c: &Part, sets: u32, most: usize) -> Option<Table> {
         let part = self.work_out(c, sets, most)?;
-        let table = subsets::project(&part, x, most)?;
+        let table = project::project(&part, x, most)?;
         self.found += table.classes();
         Some(table)
     }

@@ -24,8 +24,8 @@ fn after(q: u8, x: bool, y: bool) -> u8 {
 }
 
 /// The states that are reached, numbered as they are found.
-pub(super) fn explore(leaf: &Part, sets: u32) -> Table {
-    let (start, x, y) = match *leaf {
+pub(super) fn explore(atom: &Part, sets: u32) -> Table {
+    let (start, x, y) = match *atom {
         Part::Within(x, y) => (0, x, y),
         Part::Single(x) => (1, x, x),
         Part::Next(x, y) => (2, x, y),
