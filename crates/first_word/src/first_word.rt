@@ -6,8 +6,8 @@ ghost use Rattle.first_word.specs.Finding.{Finds};
 
 use lengths::judge::judge;
 use lengths::judged::Judged;
-use workspace::floor::floor;
 use std::alloc::{AllocError, Global};
+use workspace::floor::floor;
 
 /// Of which words a claim holds: of none; of this one first, a column of 32 bits for each place; or it was not found out, since more classes would have to be told apart than are allowed.
 #[derive(Debug, Drop)]

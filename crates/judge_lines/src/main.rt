@@ -11,10 +11,10 @@ use lengths::judge::judge;
 use lengths::judged::Judged;
 use line_format::fault::Fault;
 use line_format::line::{read_bytes, read_fields, read_number};
-use workspace::floor::floor;
 use std::alloc::Global;
 use std::fmt;
 use std::io::{BufRead, BufReader};
+use workspace::floor::floor;
 
 // The most work words that a line may take: 256 MiB.
 const MOST_WORDS: u128 = 67108864;

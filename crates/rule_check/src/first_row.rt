@@ -11,10 +11,10 @@ use crate::modules::modules;
 use crate::verdict::Verdict;
 use claims::encode::{Refusal, encode};
 use first_word::first_word::{Found, first_word};
-use workspace::largest::largest;
 use rules::property::claim_of;
 use rules::question::Question;
 use std::alloc::{AllocError, Global};
+use workspace::largest::largest;
 
 // What is found of a claim about rows of modules of so many bits, with at most n classes.
 fn found(alloc: Global, bits: u8, claim: &[u8], n: u32) -> Result<Verdict, AllocError>

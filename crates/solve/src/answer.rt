@@ -7,9 +7,9 @@ use crate::first::first_row;
 use crate::question::{Question, question_of};
 use crate::stop::Stop;
 use first_word::first_word::Found;
-use workspace::largest::largest;
 use std::alloc::Global;
 use trees::tree::Item;
+use workspace::largest::largest;
 
 /// Of which places and sets a text's claim holds, of those that meet its assumptions. A word has a column for each place, in which bit x says whether the x-th declared name has the place.
 #[derive(Debug, Drop)]

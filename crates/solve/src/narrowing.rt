@@ -13,10 +13,10 @@ use formulas::free::free_names;
 use formulas::name::Name;
 use resolve::asked::{Asked, ask};
 use resolve::narrow::{Part, parts, statements};
-use workspace::largest::fits;
 use std::alloc::{AllocError, Global};
 use trees::position::Span;
 use trees::tree::Item;
+use workspace::largest::fits;
 
 // Puts the name behind those that are there, unless it is one of them.
 fn push_name(names: &mut Vec<Name>, name: Name) -> Result<(), AllocError>
