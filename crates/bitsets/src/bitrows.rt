@@ -25,7 +25,8 @@ pub fn insert(row: &mut [u32], q: usize)
 
 // Whether row i and row j are the same.
 pub fn same_rows(sets: &[u32], w: usize, i: usize, j: usize) -> bool
-    requires { (i * w + w ≤ length sets.now) × (j * w + w ≤ length sets.now) }
+    requires i { i * w + w ≤ length sets.now }
+    requires j { j * w + w ≤ length sets.now }
     ensures { Decides result (row_at sets.now w i ≡ row_at sets.now w j) }
 {
     sets[i * w..i * w + w] == sets[j * w..j * w + w]

@@ -30,7 +30,8 @@ fn bucket(row: &[u32], n: usize) -> u32
 
 // 1 more than the last of the first n rows that is in bucket h, or 0.
 fn first(heads: &[u32], buckets: &[u32], n: usize, h: u32) -> usize
-    requires { (h < length heads.now) × (n ≤ length buckets.now) }
+    requires bucket { h < length heads.now }
+    requires buckets { n ≤ length buckets.now }
     ensures { result ≡ first_of heads.now buckets.now n h }
 {
     let i = heads[h as usize] as usize;
@@ -40,7 +41,10 @@ fn first(heads: &[u32], buckets: &[u32], n: usize, h: u32) -> usize
 // Files row n, the next one, under bucket h.
 fn file(h: u32, n: usize, heads: &mut [u32], links: &mut [u32], buckets: &mut [u32])
     requires chained { Chains heads.old links.old buckets.old n }
-    requires room { (h < length heads.old) × (n < length links.old) × (n < length buckets.old) × (n < 2 ^ 32) }
+    requires bucket { h < length heads.old }
+    requires links { n < length links.old }
+    requires buckets { n < length buckets.old }
+    requires few { n < 2 ^ 32 }
     ensures chained { Chains heads.new links.new buckets.new (n + 1) }
     ensures filed { buckets.new ≡ slice_set buckets.old n h }
 {
@@ -61,7 +65,10 @@ fn find(
 ) -> Option<usize>
     requires interned { Interned sets.now w n heads.now links.now buckets.now }
     requires hash { h ≡ bucket_of (row_at sets.now w n) (length heads.now) }
-    requires room { (n * w + w ≤ length sets.now) × (h < length heads.now) × (n ≤ length links.now) × (n ≤ length buckets.now) }
+    requires row { n * w + w ≤ length sets.now }
+    requires bucket { h < length heads.now }
+    requires links { n ≤ length links.now }
+    requires buckets { n ≤ length buckets.now }
     ensures { MatchOption result ((j : ℕ) → j < n → row_at sets.now w j ≢ row_at sets.now w n) (λ j. (j < n) × (row_at sets.now w j ≡ row_at sets.now w n)) }
 {
     let mut next = first(heads, buckets, n, h);
@@ -85,7 +92,11 @@ pub fn intern(
     buckets: &mut [u32],
 ) -> Option<usize>
     requires interned { Interned sets.now w n heads.old links.old buckets.old }
-    requires room { (n * w + w ≤ length sets.now) × (0 < length heads.old) × (n < length links.old) × (n < length buckets.old) × (n < 2 ^ 32) }
+    requires row { n * w + w ≤ length sets.now }
+    requires heads { 0 < length heads.old }
+    requires links { n < length links.old }
+    requires buckets { n < length buckets.old }
+    requires few { n < 2 ^ 32 }
     ensures { MatchOption result (Fresh sets.now w n heads.new links.new buckets.new) (Again sets.now w n heads.new links.new buckets.new) }
 {
     let h = bucket(&sets[n * w..n * w + w], heads.len());

@@ -88,7 +88,8 @@ fn clear(words: &mut [u32], n: usize)
 fn comers(t: Table, a: u32, heads: &mut [u32], links: &mut [u32])
     requires few { t.classes < 2 ^ 32 }
     requires column { a < t.width }
-    requires room { (t.classes ≤ length heads.old) × (t.classes ≤ length links.old) }
+    requires heads { t.classes ≤ length heads.old }
+    requires links { t.classes ≤ length links.old }
     ensures { Comers t.entry.classes t.entry.classes (by_column t.entry.rows.now t.entry.width a) heads.new links.new }
 {
     clear(heads, t.classes);
@@ -141,7 +142,8 @@ fn mark_comers(
 // Marks the accepting classes, in memory with any contents, and puts them into the queue. The queue's tail.
 fn mark_accepting(t: Table, marks: &mut [u32], queue: &mut [u32]) -> usize
     requires few { t.classes < 2 ^ 32 }
-    requires room { (t.classes ≤ length marks.old) × (t.classes ≤ length queue.old) }
+    requires marks { t.classes ≤ length marks.old }
+    requires queue { t.classes ≤ length queue.old }
     ensures queued { Queued t.entry.classes marks.new queue.new result }
     ensures accepting { (q : ℕ) → q < t.entry.classes → accepts marks.new q ≡ accepting t.entry q }
 {
@@ -157,7 +159,8 @@ fn mark_accepting(t: Table, marks: &mut [u32], queue: &mut [u32]) -> usize
 
 // The column in which set x alone has the place.
 fn lone(x: Set, sets: u32) -> u32
-    requires { (x.0 < sets) × (sets ≤ 12) }
+    requires set { x.0 < sets }
+    requires narrow { sets ≤ 12 }
     ensures value { result ≡ put_bit x.0 true 0 }
     ensures below { result < 2 ^ sets }
 {

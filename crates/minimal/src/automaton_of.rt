@@ -24,7 +24,8 @@ use workspace::largest::largest;
 // A table of m classes in lent memory, over words of k sets.
 fn table<'x>(k: u32, rows: &'x [u32], accept: &'x [u32], m: usize) -> WordTable<'x>
     requires few { k ≤ 12 }
-    requires fits { (m * 2 ^ k ≤ length rows.now) × (m ≤ length accept.now) }
+    requires rows { m * 2 ^ k ≤ length rows.now }
+    requires accept { m ≤ length accept.now }
     requires below { (q a : ℕ) → q < m → a < 2 ^ k → entry rows.now (2 ^ k) q a < m }
     ensures words { (result.table.rows.now ≡ rows.now) × (result.table.accept.now ≡ accept.now) }
     ensures size { (result.table.classes ≡ m) × (result.table.width ≡ 2 ^ k) × (result.sets ≡ k) }

@@ -18,7 +18,10 @@ pub fn intern(
 ) -> u32
     requires room { Room m lefts.old rights.old index.old }
     requires pairs { Numbered m m lefts.old rights.old index.old count }
-    requires below { (count < m) × (x < m) × (y < m) × (m < 2 ^ 32) }
+    requires count { count < m }
+    requires x { x < m }
+    requires y { y < m }
+    requires few { m < 2 ^ 32 }
     ensures { Interned m count x y lefts.old rights.old lefts.new rights.new index.new result }
 {
     let sizes = Sizes { left: m, right: m };

@@ -14,7 +14,8 @@ use tables::cells::{Class, Table};
 pub fn by_acceptance(t: Table, cls: &mut [u32], firsts: &mut [u32]) -> usize
     requires some { 0 < t.classes }
     requires few { t.classes < 2 ^ 32 }
-    requires room { (t.classes ≤ length cls.old) × (t.classes ≤ length firsts.old) }
+    requires cls { t.classes ≤ length cls.old }
+    requires firsts { t.classes ≤ length firsts.old }
     ensures { Parted t.entry.classes (accepting t.entry) (λ q. slice_index cls.new q) (λ i. slice_index firsts.new i) result }
 {
     let start = t.accepts(Class(0));
@@ -92,7 +93,8 @@ pub fn renumber(
 
 // Copies a partition of the first n classes.
 pub fn copy(from: &[u32], n: usize, to: &mut [u32])
-    requires { (n ≤ length from.now) × (n ≤ length to.old) }
+    requires from { n ≤ length from.now }
+    requires to { n ≤ length to.old }
     ensures { (q : ℕ) → q < n → slice_index to.new q ≡ slice_index from.now q }
 {
     to[..n].copy_from_slice(&from[..n]);

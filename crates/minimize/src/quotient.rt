@@ -10,8 +10,10 @@ use tables::cells::{Class, Table, put};
 // Invariant: the columns before a are written.
 fn quotient_row(t: Table, cls: &[u32], from: Class, rows: &mut [u32], most: usize, to: Class)
     requires narrow { t.width < 2 ^ 32 }
-    requires row { (from.0 < t.classes) × (to.0 < most) }
-    requires room { (t.classes ≤ length cls.now) × (most * t.width ≤ length rows.old) }
+    requires from { from.0 < t.classes }
+    requires to { to.0 < most }
+    requires cls { t.classes ≤ length cls.now }
+    requires rows { most * t.width ≤ length rows.old }
     ensures leads { (a : ℕ) → a < t.entry.width → entry rows.new t.entry.width to.0 a ≡ slice_index cls.now (moves t.entry from.0 a) }
     ensures kept { (i a : ℕ) → (i ≢ to.0) → a < t.entry.width → entry rows.new t.entry.width i a ≡ entry rows.old t.entry.width i a }
 {
@@ -34,8 +36,10 @@ pub fn quotient(
     requires narrow { t.width < 2 ^ 32 }
     requires few { n < 2 ^ 32 }
     requires firsts { (i : ℕ) → i < n → slice_index firsts.now i < t.classes }
-    requires parts { (t.classes ≤ length cls.now) × (n ≤ length firsts.now) }
-    requires into { (n * t.width ≤ length rows.old) × (n ≤ length accept.old) }
+    requires cls { t.classes ≤ length cls.now }
+    requires firsts_fit { n ≤ length firsts.now }
+    requires rows { n * t.width ≤ length rows.old }
+    requires accept { n ≤ length accept.old }
     ensures { Quotient t.entry cls.now firsts.now n rows.new accept.new }
 {
     for i in 0..n {

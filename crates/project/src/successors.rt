@@ -23,7 +23,8 @@ pub fn put_live(row: &mut [u32], r: Class, dead: Option<usize>)
 // Puts the classes to which columns a and b lead from class q into a set.
 fn follow_class(p: &Projection, row: &mut [u32], q: Class, a: u32, b: u32)
     requires inside { q.0 < p.now.t.table.classes }
-    requires columns { (a < p.now.t.table.width) × (b < p.now.t.table.width) }
+    requires first { a < p.now.t.table.width }
+    requires second { b < p.now.t.table.width }
     requires room { p.now.t.table.classes ≤ 32 * length row.old }
     ensures { Adds (has row.old) (has row.new) (λ r. Leads (moves p.now.t.table) (lives p.now.t.table.classes p.now.dead) a b r q.0) }
 {
@@ -35,7 +36,8 @@ fn follow_class(p: &Projection, row: &mut [u32], q: Class, a: u32, b: u32)
 // The same from each of the classes from + y, y the bits of a word: shifts the word down until no bit is left.
 fn follow_word(p: &Projection, row: &mut [u32], word: u32, from: usize, a: u32, b: u32)
     requires inside { BitsBelow p.now.t.table.classes from word }
-    requires columns { (a < p.now.t.table.width) × (b < p.now.t.table.width) }
+    requires first { a < p.now.t.table.width }
+    requires second { b < p.now.t.table.width }
     requires room { p.now.t.table.classes ≤ 32 * length row.old }
     requires small { from < 2 ^ 40 }
     ensures { Adds (has row.old) (has row.new) (λ r. SomeBit (Leads (moves p.now.t.table) (lives p.now.t.table.classes p.now.dead) a b r) from word) }
@@ -55,7 +57,8 @@ fn follow_word(p: &Projection, row: &mut [u32], word: u32, from: usize, a: u32, 
 pub fn follow(p: &Projection, sets: &mut [u32], i: usize, to: usize, a: u32, b: u32)
     requires order { i < to }
     requires inside { Below p.now.t.table.classes (member sets.old p.now.w i) }
-    requires columns { (a < p.now.t.table.width) × (b < p.now.t.table.width) }
+    requires first { a < p.now.t.table.width }
+    requires second { b < p.now.t.table.width }
     requires room { to * p.now.w + p.now.w ≤ length sets.old }
     ensures made { Successors (moves p.now.t.table) (lives p.now.t.table.classes p.now.dead) a b (member sets.old p.now.w i) (member sets.new p.now.w to) }
     ensures kept { (j : ℕ) → j < to → row_at sets.new p.now.w j ≡ row_at sets.old p.now.w j }

@@ -29,7 +29,8 @@ impl Found<'_> {
 
     // Whether class q is among those found.
     fn has(&self, q: Class) -> bool
-        requires room { (self.now.count ≤ length self.now.queue.now) × (q.0 < length self.now.number.now) }
+        requires queue { self.now.count ≤ length self.now.queue.now }
+        requires number { q.0 < length self.now.number.now }
         requires numbered { Numbered self.now.queue.now self.now.number.now self.now.count }
         ensures old { result ≡ true → Among self.now.queue.now self.now.count q.0 }
         ensures new { result ≡ false → Among self.now.queue.now self.now.count q.0 → ⊥ }
@@ -42,7 +43,8 @@ impl Found<'_> {
     fn enter(&mut self, q: Class, i: usize, a: u32)
         requires room { self.old.count < self.old.classes }
         requires class { q.0 < length self.old.number.now }
-        requires small { (i < self.old.count) × (self.old.count < 2 ^ 32) }
+        requires from { i < self.old.count }
+        requires few { self.old.count < 2 ^ 32 }
         ensures count { self.new.count ≡ self.old.count + 1 }
         ensures queue { self.new.queue.now ≡ slice_set self.old.queue.now self.old.count q.0 }
         ensures number { self.new.number.now ≡ slice_set self.old.number.now q.0 self.old.count }
@@ -60,8 +62,10 @@ impl Found<'_> {
     // Follows column a from the class of number i, of a table over words of `sets` sets.
     fn follow(&mut self, t: Table, sets: u32, i: usize, a: u32)
         requires wide { t.width ≡ 2 ^ sets }
-        requires few { (self.old.classes ≡ t.classes) × (t.classes < 2 ^ 32) }
-        requires here { (i < self.old.count) × (a < t.width) }
+        requires same { self.old.classes ≡ t.classes }
+        requires few { t.classes < 2 ^ 32 }
+        requires here { i < self.old.count }
+        requires column { a < t.width }
         requires so_far { Seeks sets t self.old i a }
         ensures more { self.old.count ≤ self.new.count }
         ensures so_far { Seeks sets t.entry self.new i (a + 1) }
@@ -75,7 +79,8 @@ impl Found<'_> {
 
     // Follows all columns from the class of number i, the least first.
     fn follow_all(&mut self, t: WordTable, i: usize)
-        requires few { (self.old.classes ≡ t.table.classes) × (t.table.classes < 2 ^ 32) }
+        requires same { self.old.classes ≡ t.table.classes }
+        requires few { t.table.classes < 2 ^ 32 }
         requires here { i < self.old.count }
         requires so_far { Seeks t.sets t.table self.old i 0 }
         ensures more { self.old.count ≤ self.new.count }

@@ -20,7 +20,8 @@ pub fn word_length(prev: &[u32], j: usize) -> usize
 
 // Writes the word of number j into memory of its length, the last column first: at each step the word of the number reached, followed by what is written, is the word of j.
 pub fn write_word(prev: &[u32], via: &[u32], j: usize, out: &mut [u32])
-    requires room { (j < length prev.now) × (j < length via.now) }
+    requires prev { j < length prev.now }
+    requires via { j < length via.now }
     requires falls { Falls prev.now j }
     requires exact { length out.old ≡ length (word prev.now via.now j) }
     ensures { out.new ≡ word prev.now via.now j }

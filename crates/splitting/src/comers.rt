@@ -50,8 +50,10 @@ fn clear(words: &mut [u32], n: usize)
 // Puts class q before the list of the class to which it goes by column a.
 fn list_entry(t: Table, q: Class, a: u32, heads: &mut [u32], links: &mut [u32])
     requires few { t.classes < 2 ^ 32 }
-    requires entry { (q.0 < t.classes) × (a < t.width) }
-    requires room { (t.classes * t.width ≤ length heads.old) × (t.classes * t.width ≤ length links.old) }
+    requires class { q.0 < t.classes }
+    requires column { a < t.width }
+    requires heads { t.classes * t.width ≤ length heads.old }
+    requires links { t.classes * t.width ≤ length links.old }
     ensures heads { heads.new ≡ put_entry heads.old t.entry.width (moves t.entry q.0 a) a (q.0 + 1) }
     ensures links { links.new ≡ put_entry links.old t.entry.width q.0 a (entry heads.old t.entry.width (moves t.entry q.0 a) a) }
 {
@@ -67,7 +69,8 @@ fn list_class(t: Table, q: Class, repeats: &[u32], heads: &mut [u32], links: &mu
     requires few { t.classes < 2 ^ 32 }
     requires narrow { t.width < 2 ^ 32 }
     requires class { q.0 < t.classes }
-    requires room { (t.classes * t.width ≤ length heads.old) × (t.classes * t.width ≤ length links.old) }
+    requires heads { t.classes * t.width ≤ length heads.old }
+    requires links { t.classes * t.width ≤ length links.old }
     requires before { Listed t.classes t.width (moves t) repeats.now heads.old links.old q.0 0 }
     ensures { Listed t.entry.classes t.entry.width (moves t.entry) repeats.now heads.new links.new q.0 t.entry.width }
 {
@@ -82,7 +85,8 @@ fn list_class(t: Table, q: Class, repeats: &[u32], heads: &mut [u32], links: &mu
 pub fn list_comers(t: Table, repeats: &[u32], heads: &mut [u32], links: &mut [u32])
     requires few { t.classes < 2 ^ 32 }
     requires narrow { t.width < 2 ^ 32 }
-    requires room { (t.classes * t.width ≤ length heads.old) × (t.classes * t.width ≤ length links.old) }
+    requires heads { t.classes * t.width ≤ length heads.old }
+    requires links { t.classes * t.width ≤ length links.old }
     ensures { (a : ℕ) → a < t.entry.width → slice_index repeats.now a ≢ 1 → Comers t.entry.classes t.entry.classes (λ q. moves t.entry q a) (λ r. entry heads.new t.entry.width r a) (λ q. entry links.new t.entry.width q a) }
 {
     clear(heads, t.classes * t.width);

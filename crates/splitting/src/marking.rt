@@ -24,7 +24,8 @@ fn mark(
     marks: &mut Marks,
     tail: usize,
 ) -> usize
-    requires class { (p.0 < classes) × (classes < 2 ^ 32) }
+    requires class { p.0 < classes }
+    requires few { classes < 2 ^ 32 }
     requires arranged { Stand classes places.old parting.now marks.old.cut.now }
     requires touched { AreTouched classes parting.now marks.old tail }
     ensures { AlsoMarked classes (λ q. q ≡ p.0) parting.now places.old marks.old places.new marks.new result }

@@ -10,7 +10,8 @@ use words::bits::{Set, without_bit};
 // Invariant: they lead those before q alike.
 fn lead_alike(t: Table, a: u32, b: u32) -> bool
     requires few { t.classes < 2 ^ 32 }
-    requires columns { (a < t.width) × (b < t.width) }
+    requires first { a < t.width }
+    requires second { b < t.width }
     ensures { result ≡ true → (q : ℕ) → q < t.entry.classes → moves t.entry q a ≡ moves t.entry q b }
 {
     for q in 0..t.classes {

@@ -45,9 +45,15 @@ use tables::cells::WordTable;
 
 // Parts the classes by acceptance: all classes are one part, and those that accept are cut off.
 fn start(t: WordTable, places: &mut Places, parting: &mut Parting, marks: &mut Marks)
-    requires some { (0 < t.table.classes) × (t.table.classes < 2 ^ 32) }
-    requires placed { (t.table.classes ≤ length places.old.order.now) × (t.table.classes ≤ length places.old.place.now) × (t.table.classes ≤ length parting.old.part.now) }
-    requires bounded { (t.table.classes ≤ length parting.old.begin.now) × (t.table.classes ≤ length parting.old.end.now) × (t.table.classes ≤ length marks.old.cut.now) × (t.table.classes ≤ length marks.old.touched.now) }
+    requires some { 0 < t.table.classes }
+    requires few { t.table.classes < 2 ^ 32 }
+    requires order { t.table.classes ≤ length places.old.order.now }
+    requires place { t.table.classes ≤ length places.old.place.now }
+    requires part { t.table.classes ≤ length parting.old.part.now }
+    requires begin { t.table.classes ≤ length parting.old.begin.now }
+    requires end { t.table.classes ≤ length parting.old.end.now }
+    requires cut { t.table.classes ≤ length marks.old.cut.now }
+    requires touched { t.table.classes ≤ length marks.old.touched.now }
     ensures waiting { PartsWait t.entry 1 places.new parting.new marks.new }
     ensures room { t.entry.table.classes ≤ length marks.new.touched.now }
     ensures same_part { parting.new.part.ghost_name ≡ parting.old.part.ghost_name }
@@ -95,7 +101,8 @@ fn split_by(
 )
     requires part { b < parting.old.count }
     requires repeats { Repeats lists.table.table.classes lists.table.table.width (moves lists.table.table) lists.repeats.now }
-    requires room { (lists.table.table.classes ≤ length marks.old.touched.now) × (lists.table.table.classes ≤ length members.old) }
+    requires touched { lists.table.table.classes ≤ length marks.old.touched.now }
+    requires members { lists.table.table.classes ≤ length members.old }
     requires waiting { PartsWait lists.table b places.old parting.old marks.old }
     ensures waiting { PartsWait lists.entry.table (b + 1) places.new parting.new marks.new }
     ensures room { lists.entry.table.table.classes ≤ length marks.new.touched.now }
@@ -127,7 +134,8 @@ fn split_all(
     members: &mut [u32],
 )
     requires repeats { Repeats lists.table.table.classes lists.table.table.width (moves lists.table.table) lists.repeats.now }
-    requires room { (lists.table.table.classes ≤ length marks.old.touched.now) × (lists.table.table.classes ≤ length members.old) }
+    requires touched { lists.table.table.classes ≤ length marks.old.touched.now }
+    requires members { lists.table.table.classes ≤ length members.old }
     requires waiting { PartsWait lists.table 1 places.old parting.old marks.old }
     ensures stable { Stable lists.entry.table.sets lists.entry.table.table.classes (moves lists.entry.table.table) (accepting lists.entry.table.table) (λ q. slice_index parting.new.part.now q) }
     ensures below { (q : ℕ) → q < lists.entry.table.table.classes → slice_index parting.new.part.now q < lists.entry.table.table.classes }

@@ -11,4 +11,4 @@ returns c =
     let n = c.args.n in
     let h = c.args.h in
     let P : ℕ → Type 0 = λ z. Chains (set heads h n) (set links n z) (set buckets n h) (n + 1) in
-    record { chained = subst P (sym c.first.ensures) (chains_more heads links buckets n h c.requires.chained c.requires.room.0 c.requires.room.1 c.requires.room.2); filed = refl }
+    record { chained = subst P (sym c.first.ensures) (chains_more heads links buckets n h c.requires.chained c.requires.bucket c.requires.links c.requires.buckets); filed = refl }

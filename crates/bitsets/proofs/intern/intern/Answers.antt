@@ -9,7 +9,10 @@ pub find-requires : goal.find-requires
 find-requires c = record {
   interned = c.requires.interned;
   hash = c.bucket-h.ensures.value ∙ ap (λ r. bucket_of r (length c.args.heads.now)) (row_part c.args.sets.now c.args.w c.args.n);
-  room = (c.requires.room.0, c.bucket-h.ensures.below, omega arith, omega arith);
+  row = c.requires.row;
+  bucket = c.bucket-h.ensures.below;
+  links = omega arith;
+  buckets = omega arith;
 }
 
 pub returns-in-None : goal.returns-in-None
@@ -18,8 +21,8 @@ returns-in-None c =
     let w = c.args.w in
     let n = c.args.n in
     record {
-      differs = λ j o e. (let f = row_fits j n w o in c.in-None.ensures j o (row_ext sets w j n (omega arith) c.requires.room.0 (λ z. omega (arith, c.type_inv.sets z)) e));
+      differs = λ j o e. (let f = row_fits j n w o in c.in-None.ensures j o (row_ext sets w j n (omega arith) c.requires.row (λ z. omega (arith, c.type_inv.sets z)) e));
       interned = interned_more sets w n c.args.heads.now c.args.links.now c.args.buckets.now c.file.new.heads c.file.new.links c.file.new.buckets c.bucket-h.result
-          c.requires.interned c.file.ensures.chained c.file.ensures.filed c.requires.room.3 (omega arith)
+          c.requires.interned c.file.ensures.chained c.file.ensures.filed c.requires.buckets (omega arith)
           (c.bucket-h.ensures.value ∙ ap (λ r. bucket_of r (length c.args.heads.now)) (row_part sets w n));
     }

@@ -9,4 +9,4 @@ pub returns : goal.returns
 returns c =
     let x = c.args.x.0 in
     let e : c.with_bit.result ≡ put_bit x true 0 = column_with x c.with_bit.result c.with_bit.ensures.here c.with_bit.ensures.others in
-    record { value = e; below = rw e (put_bit_below c.args.sets x true 0 c.requires.0 (pow_pos c.args.sets)) }
+    record { value = e; below = rw e (put_bit_below c.args.sets x true 0 c.requires.set (pow_pos c.args.sets)) }

@@ -6,12 +6,12 @@ use Rattle.live.specs.Dead.{lives}
 use Rattle.project.proofs.SubsetsLaws.{put_is, put_same, step_made}
 use Rattle.project.proofs.subsets.next_set.Goals as goal
 
-pub follow-requires-clause-columns : goal.follow-requires-clause-columns
-follow-requires-clause-columns c =
+pub follow-requires-clause-second : goal.follow-requires-clause-second
+follow-requires-clause-second c =
     let p = c.args.p.now in
     let e = put_is p.x.0 c.args.a c.with_bit-b.result true c.with_bit-b.ensures.here c.with_bit-b.ensures.others in
     let b = put_bit_below p.t.sets p.x.0 true c.args.a p.bound (omega (arith, p.t.wide, c.requires.column)) in
-    (c.requires.column, omega (arith, p.t.wide))
+    omega (arith, p.t.wide)
 
 pub returns-clause-made : goal.returns-clause-made
 returns-clause-made c =

@@ -5,8 +5,8 @@ use Rattle.splitting.proofs.cutting.cut_part.Goals as goal
 pub bound-requires : goal.bound-requires
 bound-requires c =
     let a = c.requires.arranged in
-    let r : c.args.parting.now.count < c.args.classes = room_for_one a c.requires.part.0 c.requires.marked (omega (arith, a.cuts.to c.args.c c.requires.part.0)) in
-    (omega (arith, a.parts.begin_fits), omega (arith, a.parts.end_fits), omega (arith, a.cuts.fits))
+    let r : c.args.parting.now.count < c.args.classes = room_for_one a c.requires.part c.requires.marked (omega (arith, a.cuts.to c.args.c c.requires.part)) in
+    record { begin = omega (arith, a.parts.begin_fits); end = omega (arith, a.parts.end_fits); cut = omega (arith, a.cuts.fits) }
 
 pub returns-clause-cut : goal.returns-clause-cut
 returns-clause-cut c =
@@ -14,7 +14,7 @@ returns-clause-cut c =
     let n = c.args.parting.now.count in
     let d = c.args.c in
     let h = c.halve-h.result in
-    let l = c.requires.part.0 in
+    let l = c.requires.part in
     let more : get_or c.args.cut.now d 0 < get_or c.args.parting.now.end.now d 0 = omega (arith, a.cuts.to d l) in
     let r : n < c.args.classes = room_for_one a l c.requires.marked more in
     let b : n < length c.args.parting.now.begin.now = omega (arith, a.parts.begin_fits) in

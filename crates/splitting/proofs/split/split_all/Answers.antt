@@ -3,7 +3,7 @@ use Rattle.splitting.proofs.SplitLaws.{waiting_alone, waiting_end}
 use Rattle.splitting.proofs.split.split_all.Goals as goal
 
 pub loop-done-init : goal.loop-done-init
-loop-done-init c = record { waiting = c.requires.waiting; room = c.requires.room.0; same_part = refl }
+loop-done-init c = record { waiting = c.requires.waiting; room = c.requires.touched; same_part = refl }
 
 pub loop-done-preserved : goal.loop-done-preserved
 loop-done-preserved c = record { waiting = c.split_by.ensures.waiting; room = c.split_by.ensures.room; same_part = c.split_by.ensures.same_part ∙ c.loop-done.invariant.same_part }

@@ -4,7 +4,7 @@ use Rattle.splitting.proofs.split.split_by.Goals as goal
 use Rattle.splitting.proofs.split.split_by.Goals.{then-not-is_marked, else-not-is_marked}
 
 pub loop-a-init : goal.loop-a-init
-loop-a-init c = record { split = split_none c.requires.waiting c.requires.part; room = c.requires.room.0; same_part = refl }
+loop-a-init c = record { split = split_none c.requires.waiting c.requires.part; room = c.requires.touched; same_part = refl }
 
 pub invariant_of-column-clause-listed : goal.invariant_of-column-clause-listed
 invariant_of-column-clause-listed c = c.args.lists.listed c.loop-a.a (omega arith) (c.is_marked.ensures.left c.if-not-is_marked.true)
