@@ -8,7 +8,7 @@ use rule_report::report::report_file;
 use std::{env, fs};
 
 // What is told of a file, and the status with which the program would end.
-fn tell_file(rt: &HostRuntime, file: &str, options: &Options) -> anyhow::Result<()> {
+fn file_case(rt: &HostRuntime, file: &str, options: &Options) -> anyhow::Result<()> {
     let text = fs::read_to_string(rt, file)?;
     match report_file(rt.alloc(), file, text.as_str(), options)? {
         Ok(report) => {
@@ -24,7 +24,7 @@ fn tell_file(rt: &HostRuntime, file: &str, options: &Options) -> anyhow::Result<
 }
 
 // What is told where the words of the command line are refused.
-fn tell_words(rt: &HostRuntime, words: &[&str]) -> anyhow::Result<()> {
+fn words_case(rt: &HostRuntime, words: &[&str]) -> anyhow::Result<()> {
     let mut all = Vec::new(rt.alloc());
     print!(rt; "==")?;
     for word in words {
@@ -50,7 +50,7 @@ fn run(rt: &HostRuntime) -> anyhow::Result<()> {
         pictures: false,
     };
     for file in env::args(rt)?.skip(1) {
-        tell_file(rt, file.as_str(), &plain)?;
+        file_case(rt, file.as_str(), &plain)?;
     }
     let narrow = Options {
         most: Some(20),
@@ -59,13 +59,13 @@ fn run(rt: &HostRuntime) -> anyhow::Result<()> {
         bytes: false,
         pictures: false,
     };
-    tell_file(rt, "large.txt", &narrow)?;
-    tell_words(rt, &["conveyor", "--nonsense"])?;
-    tell_words(rt, &["conveyor", "--steps", "many", "rule.txt"])?;
-    tell_words(rt, &["conveyor", "--most"])?;
-    tell_words(rt, &["conveyor", "--version"])?;
-    tell_words(rt, &["conveyor", "--help"])?;
-    tell_words(rt, &["conveyor", "--steps", "2", "rule.txt"])
+    file_case(rt, "large.txt", &narrow)?;
+    words_case(rt, &["conveyor", "--nonsense"])?;
+    words_case(rt, &["conveyor", "--steps", "many", "rule.txt"])?;
+    words_case(rt, &["conveyor", "--most"])?;
+    words_case(rt, &["conveyor", "--version"])?;
+    words_case(rt, &["conveyor", "--help"])?;
+    words_case(rt, &["conveyor", "--steps", "2", "rule.txt"])
 }
 
 fn main(rt: HostRuntime) -> anyhow::Result<()> {
