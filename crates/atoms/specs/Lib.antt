@@ -1,3 +1,3 @@
--- The machine of a claim without parts, as what a search finds of it; its table.
+-- What is left of a claim without parts, as a search finds it; its table.
 pub mod States
 pub mod AtomTable

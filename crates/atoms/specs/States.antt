@@ -1,19 +1,20 @@
--- The states of the machine of a claim without parts, and a memory in which they are found.
-use Rattle.std.specs.Prelude.{ℕ, ◌<◌, slice_index}
-use Rattle.automata.specs.Machines.{machine, moves}
+-- What is left of a claim without parts: an automaton whose states are residuals, and a memory in which they are found.
+use Rattle.std.specs.Prelude.{ℕ, slice_index_or}
+use Rattle.automata.specs.Residuals.{ends, moves, whole}
+use Rattle.automata.specs.declared.residual.Residual.{Residual}
+use Rattle.automata.specs.declared.residual.Residual.TheVariants.{Dead}
 use Rattle.claims.specs.declared.atom.Atom.{Atom}
 use Rattle.worklist.specs.Search.{Automaton, Memory}
 use Rattle.atoms.specs.declared.memory.States.{States}
 
--- what the machine says of words over so many sets
-abbrev pub machine_of : ℕ → Atom → Automaton ℕ
-machine_of k a = record { sets = k; start = (machine a).start; step = moves (machine a); accepts = (machine a).ends }
+-- over words of so many sets
+abbrev pub left : ℕ → Atom → Automaton Residual
+left k a = record { sets = k; start = whole a; step = moves a; accepts = ends }
 
--- the first m that are found are states of it
-abbrev pub states_of : States → Memory ℕ
+abbrev pub states_of : States → Memory Residual
 states_of f = record {
-  automaton = machine_of f.sets f.atom;
+  automaton = left f.sets f.atom;
   room = 10;
-  at = λ i. slice_index f.found i;
-  Holds = λ m. ((j : ℕ) → j < m → slice_index f.found j < (machine f.atom).size);
+  at = λ i. slice_index_or f.found i Dead;
+  Holds = λ m. Unit {0};
 }

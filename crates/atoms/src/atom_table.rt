@@ -1,5 +1,5 @@
-// The exact table of a claim without parts: its machine's states are searched, and those that are alike joined.
-// Two sets that are one make states that are alike, as for `next x x`, so whether the claim fits is known only once they are joined.
+// The exact table of a claim without parts: its residuals are searched, and those that are alike joined.
+// Two sets that are one make residuals that are alike, as for `next x x`, so whether the claim fits is known only once they are joined.
 ghost use Rattle.std.specs.Prelude.{◌≡◌, ◌+◌, ◌*◌, ◌^◌, ◌<◌, ◌≤◌, length, MatchOption};
 ghost use Rattle.claims.specs.Sizes.{Fits};
 ghost use Rattle.claims.specs.Atoms.{atom as claim, Named};
@@ -7,13 +7,14 @@ ghost use Rattle.tables.specs.Cells.{entry, accepts};
 ghost use Rattle.atoms.specs.AtomTable.{Exact};
 
 use crate::memory::States;
+use automata::residual::Residual;
 use claims::atom::Atom;
 use minimize::memory::Parts;
 use minimize::minimize::minimize;
 use tables::sheet::{Shape, Sheet};
 use worklist::explore::explore;
 
-/// The most states that a machine has.
+/// As many states there are at most: the residuals.
 pub const STATES: usize = 9;
 
 /// The exact table of the claim, written on the sheet: how many classes it has, or that they are more than the sheet has room for.
@@ -40,7 +41,7 @@ pub fn atom_table(atom: Atom, scratch: &mut [u32], sheet: &mut Sheet) -> Option<
     let mut states = States {
         atom,
         sets,
-        found: [0; 10],
+        found: [Residual::Dead; 10],
     };
     let mut parts = Parts::cut(STATES, parting, index);
     let count = explore(&mut states, &mut table)?;

@@ -2,6 +2,5 @@
 #![tactic(auto)]
 
 pub mod atom_table;
-pub mod machine;
 mod memory;
 mod states;

@@ -1,15 +1,16 @@
-// Memory in which the states of an atom's machine are found.
+// Memory in which what is left of an atom is found.
 ghost use Rattle.std.specs.Prelude.{◌≤◌};
 ghost use Rattle.claims.specs.Atoms.{Named};
 
+use automata::residual::Residual;
 use claims::atom::Atom;
 
-/// The states of the machine of a claim without parts about some of `sets` sets: state number i is found[i]. There is room for one more than it has.
+/// The residuals of a claim without parts about some of `sets` sets, as states: number i is found[i]. There are nine, and there is room for one more.
 #[derive(Clone, Copy)]
 pub struct States {
     pub atom: Atom,
     pub sets: u32,
-    pub found: [u32; 10],
+    pub found: [Residual; 10],
     ghost named: { Named sets atom },
     ghost narrow: { sets ≤ 12 },
 }

@@ -1,48 +1,35 @@
 -- Every claim's language is regular, so it can be told of every word whether it holds.
 use Rattle.std.proofs.Common.{ℕ, zero, suc, ◌+◌, ◌^◌, ◌<◌, ◌≤◌, T, ltb, [], ◌∷◌, inl, inr, pow-suc, arith, ltb→lt}
 use Rattle.words.specs.Words.{Columns, Word}
-use Rattle.claims.specs.Claims.{C, Holds, Of, and1, before, next, not1, single, some, within}
+use Rattle.claims.specs.Claims.{C, Of, and1, before, next, not1, single, some, within}
 use Rattle.claims.specs.Laws.{Told}
 use Rattle.claims.specs.Rows.{ok}
 use Rattle.claims.proofs.FrontLaws.{both_passed}
-use Rattle.claims.specs.Atoms.{atom}
-use Rattle.claims.specs.declared.atom.Atom.{Atom}
 use Rattle.claims.specs.declared.atom.Atom.TheVariants.{Within, Single, Next, Before}
-use Rattle.automata.specs.Machines.{machine}
 use Rattle.automata.proofs.Agreement.{SomeBut}
 use Rattle.automata.proofs.Beyond.{Beyond, some_beyond}
-use Rattle.automata.proofs.Machines.{leaf_regular}
 use Rattle.automata.proofs.Projection.{regular_but, regular_zeros}
 use Rattle.automata.proofs.Regular.{Regular, regular_and, regular_iff, regular_not}
-use Rattle.automata.proofs.Residuals.{leaf}
+use Rattle.automata.proofs.Residuals.{atom_regular}
 
 -- the sets under some are among the k
 abbrev pub Bound : ℕ → C → Type 0
-Bound k (within x y) = Unit {0}
-Bound k (single x) = Unit {0}
-Bound k (next x y) = Unit {0}
-Bound k (before x y) = Unit {0}
 Bound k (not1 c) = Bound k c
 Bound k (and1 c d) = Bound k c × Bound k d
 Bound k (some x c) = (x < k) × Bound k c
+Bound k _ = Unit {0}
 
 pub bound : (k : ℕ) (c : C) → T (ok k c) → Bound k c
-bound k (within x y) t = tt
-bound k (single x) t = tt
-bound k (next x y) t = tt
-bound k (before x y) t = tt
 bound k (not1 c) t = bound k c t
 bound k (and1 c d) t = let (a, b) = both_passed (ok k c) (ok k d) t in (bound k c a, bound k d b)
 bound k (some x c) t = let (a, b) = both_passed (ltb x k) (ok k c) t in (ltb→lt x k a, bound k c b)
-
-regular_leaf : (k : ℕ) (a : Atom) → Regular k (Of (atom a))
-regular_leaf k a = leaf_regular k (Holds (atom a)) (machine a) (leaf a)
+bound k _ t = tt
 
 pub regular : (k : ℕ) (c : C) → Bound k c → Regular k (Of c)
-regular k (within x y) t = regular_leaf k (Within x y)
-regular k (single x) t = regular_leaf k (Single x)
-regular k (next x y) t = regular_leaf k (Next x y)
-regular k (before x y) t = regular_leaf k (Before x y)
+regular k (within x y) t = atom_regular k (Within x y)
+regular k (single x) t = atom_regular k (Single x)
+regular k (next x y) t = atom_regular k (Next x y)
+regular k (before x y) t = atom_regular k (Before x y)
 regular k (not1 c) t = regular_not k (Of c) (regular k c t)
 regular k (and1 c d) t = regular_and k (Of c) (Of d) (regular k c t.0) (regular k d t.1)
 regular k (some x c) t =
@@ -59,13 +46,10 @@ wide [] = (0, λ k h. tt)
 wide (a ∷ w) = let (n, f) = wide w in (a + n, λ k h. (omega (arith, below_pow k), f k (omega arith)))
 
 room : (c : C) → (n : ℕ) × ((k : ℕ) → n ≤ k → Bound k c)
-room (within x y) = (0, λ k h. tt)
-room (single x) = (0, λ k h. tt)
-room (next x y) = (0, λ k h. tt)
-room (before x y) = (0, λ k h. tt)
 room (not1 c) = room c
 room (and1 c d) = let (n, f) = room c in let (m, g) = room d in (n + m, λ k h. (f k (omega arith), g k (omega arith)))
 room (some x c) = let (n, f) = room c in (suc x + n, λ k h. (omega arith, f k (omega arith)))
+room _ = (0, λ k h. tt)
 
 pub told : Told
 told c w =

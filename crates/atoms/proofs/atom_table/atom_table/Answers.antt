@@ -1,6 +1,5 @@
 use Rattle.std.proofs.Common.{refl}
-use Rattle.atoms.proofs.AtomTableLaws.{atom_exact}
-use Rattle.atoms.proofs.StatesLaws.{no_excess}
+use Rattle.atoms.proofs.AtomTableLaws.{atom_exact, no_excess}
 use Rattle.atoms.proofs.atom_table.atom_table.Goals as goal
 
 pub returns-in_err-count : goal.returns-in_err-count
