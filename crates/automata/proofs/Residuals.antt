@@ -1,5 +1,5 @@
 -- Claims without parts: what is left of one once a word is read says whether it holds of the word, so it is regular.
-use Rattle.std.proofs.Common.{◌≡◌, ℕ, zero, suc, ◌<◌, Bool, true, false, ◌↔◌, List, [], ◌∷◌, ◌++◌, get_or, sym, refl, ap, ◌∙◌, arith}
+use Rattle.std.proofs.Common.{◌≡◌, ℕ, zero, suc, ◌<◌, Bool, true, false, ◌↔◌, List, [], ◌∷◌, get_or, sym, refl, ap, ◌∙◌, arith}
 use mathlib.Core.Bool.{false≢true}
 use Rattle.words.specs.Words.{Sets, Word, sets}
 use Rattle.claims.specs.Atoms.{atom, first, second}
@@ -14,6 +14,7 @@ use Rattle.automata.specs.declared.residual.Residual.TheVariants.{Inside, One, B
 use Rattle.automata.proofs.Decisions.{off}
 use Rattle.automata.proofs.Explored.{explored_table}
 use Rattle.automata.proofs.Regular.{Regular}
+use Rattle.automata.proofs.Tables.{run-++}
 
 abbrev pub shift : Sets → Sets
 shift v x i = v x (suc i)
@@ -170,10 +171,6 @@ number_same q r e = sym (number q).2 ∙ ap (λ n. get_or all n Dead) e ∙ (num
 
 -- So the claim is regular, and the table that a search of its residuals finds says it.
 module _ (k : ℕ) (a : Atom) where
-  left_on : (r : Residual) (w : Word) (c : ℕ) → run (moves a) r (w ++ (c ∷ [])) ≡ moves a (run (moves a) r w) c
-  left_on r [] c = refl
-  left_on r (b ∷ w) c = left_on (moves a r b) w c
-
   atom_told : (w : Word) → Dec (Of (atom a) w)
   atom_told w = elim (ends (run (moves a) (whole a) w)) as (λ b. ((b ≡ true) ↔ Of (atom a) w) → Dec (Of (atom a) w)) [ true ↦ λ s. yes (s.0 refl) | false ↦ λ s. no (λ l. false≢true (s.1 l)) ] (residual_says a w)
 
@@ -183,7 +180,7 @@ module _ (k : ℕ) (a : Atom) where
     code = λ w. (number (run (moves a) (whole a) w)).0;
     coded = record {
       below = λ w h. (number (run (moves a) (whole a) w)).1;
-      on = λ u v c hu hv hc e. ap (λ r. (number r).0) (left_on (whole a) u c ∙ ap (λ r. moves a r c) (number_same _ _ e) ∙ sym (left_on (whole a) v c));
+      on = λ u v c hu hv hc e. ap (λ r. (number r).0) (run-++ (moves a) (whole a) u (c ∷ []) ∙ ap (λ r. moves a r c) (number_same _ _ e) ∙ sym (run-++ (moves a) (whole a) v (c ∷ [])));
     };
     same = λ u v hu hv e l. (residual_says a v).0 (ap ends (sym (number_same _ _ e)) ∙ (residual_says a u).1 l);
     told = λ w h. atom_told w;
