@@ -1,16 +1,2 @@
--- Where an expression stands.
-use Rattle.trees.specs.declared.position.Span.{Span}
-use Rattle.trees.specs.declared.tree.Expr.{Expr}
-use Rattle.trees.specs.declared.tree.Expr.TheVariants.{True, False, Empty, Number, Named, Listed', Unary', Binary', Bound', Call'}
-
-abbrev pub span_of : Expr → Span
-span_of (True span) = span
-span_of (False span) = span
-span_of (Empty span) = span
-span_of (Number n span) = span
-span_of (Named x) = x.span
-span_of (Listed' shape all span) = span
-span_of (Unary' sign _ a span) = span
-span_of (Binary' sign _ a _ b span) = span
-span_of (Bound' q sort names _ a span) = span
-span_of (Call' f shape all span) = span
+-- The expressions that stand in a list within an expression, one behind the other: `end`, or `more` with what the next one says, its span, and the rest.
+pub use Rattle.trees.specs.declared.tree.ExprKind.{Row_of-ExprKind-Listed-0-2 as Exprs, end_of-ExprKind-Listed-0-2 as end, more_of-ExprKind-Listed-0-2 as more, items-the_row-ExprKind-Listed-0-2 as items_of}
