@@ -1,11 +1,11 @@
 -- The words of a tree's parts.
-use Rattle.std.proofs.Common.{ℕ, ◌≡◌, List, [], ◌∷◌, Bool, Vec, Global, refl, sym, ap, ◌∙◌, string_bytes}
+use Rattle.std.proofs.Common.{ℕ, ◌≡◌, List, ◌∷◌, Bool, Vec, Global, sym, ap, ◌∙◌, string_bytes}
 use Rattle.tokens.specs.declared.kind.Kind.TheVariants as kind
 use Rattle.tokens.specs.Words.{Word, word}
 use Rattle.trees.specs.declared.tree.Name.{Name}
 use Rattle.trees.specs.Tree.{Expr}
 use Rattle.trees.specs.declared.tree.ExprKind.{ExprKind, Listed, Call}
-use Rattle.syntax.specs.Plain.{Plain, listed, call, joined, written, list, open_, close, open_set, close_set}
+use Rattle.syntax.specs.Plain.{Plain, listed, call, written, list, open_, close, open_set, close_set}
 use Rattle.syntax.specs.Views.{view, view_all}
 use Rattle.syntax.specs.Printed.{text, texts}
 use Rattle.syntax.proofs.ExpressionLaws.{listed_view, call_view}

@@ -1,13 +1,13 @@
-use Rattle.std.proofs.Common.{ℕ, List, ◌∷◌, ◌≡◌, refl, sym, ap, ◌∙◌, string_bytes}
+use Rattle.std.proofs.Common.{ℕ, List, ◌∷◌, ap, ◌∙◌}
 use Rattle.tokens.specs.declared.kind.Kind.TheVariants as kind
 use Rattle.tokens.specs.Words.{Word, word}
-use Rattle.syntax.specs.Plain.{Plain, prefixed, joined, written, list, open_, close, open_set, close_set, empty_word, sign_of}
+use Rattle.syntax.specs.Plain.{prefixed, joined, written, list, open_, close, open_set, close_set, empty_word, sign_of}
 use Rattle.trees.specs.Tree.{Expr}
 use Rattle.trees.specs.declared.tree.Unary.TheVariants as unary
 use Rattle.syntax.specs.Views.{view, view_all}
 use Rattle.syntax.specs.Parsing.{right_of}
 use Rattle.syntax.specs.Printed.{text, texts, enclosed, within_parens, left_of}
-use Rattle.printing.specs.Writing.{Writes, is_all}
+use Rattle.printing.specs.Writing.{is_all}
 use Rattle.printing.proofs.WritingLaws.{both, then_ok, same, same_ok}
 use Rattle.printing.proofs.TreesLaws.{of_view, listed_words, call_words}
 use Rattle.printing.proofs.print.+printing.Goals as goal

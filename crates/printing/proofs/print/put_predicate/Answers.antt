@@ -6,7 +6,7 @@ use Rattle.syntax.specs.Plain.{written, open_, close, semicolon}
 use Rattle.syntax.specs.Items.{parameters, view_parameters, equal}
 use Rattle.syntax.specs.Views.{view}
 use Rattle.syntax.specs.Printed.{text}
-use Rattle.printing.specs.Writing.{text_with, Writes, is_all}
+use Rattle.printing.specs.Writing.{Writes, is_all}
 use Rattle.printing.proofs.WritingLaws.{same, then_ok}
 use Rattle.printing.proofs.print.put_predicate.Goals as goal
 
