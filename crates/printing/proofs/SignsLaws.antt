@@ -1,5 +1,5 @@
 -- How tight what stands left of an operator has to bind.
-use Rattle.std.proofs.Common.{ℕ, ◌≡◌, ◌+◌, ◌≢◌, refl, arith, ◌∙◌, sym}
+use Rattle.std.proofs.Common.{◌≡◌, ◌+◌, ◌≢◌, refl, arith}
 use Rattle.trees.specs.declared.tree.Binary.{Binary}
 use Rattle.trees.specs.declared.tree.Binary.TheVariants as binary
 use Rattle.syntax.specs.Parsing.{level_of, right_of}

@@ -1,6 +1,5 @@
 -- Words written one after the other.
-use Rattle.std.proofs.Common.{ℕ, zero, suc, ◌≡◌, ◌<◌, ◌+◌, List, [], ◌∷◌, ◌++◌, Result, Ok, Err, OnOk, refl, sym, ap, ◌∙◌, arith, add-one, length, drop, get_or, string_bytes}
-use Rattle.tokens.specs.declared.kind.Kind.{Kind}
+use Rattle.std.proofs.Common.{ℕ, zero, suc, ◌≡◌, ◌<◌, ◌+◌, List, [], ◌∷◌, Result, Ok, Err, OnOk, sym, ap, ◌∙◌, arith, add-one, length, drop, get_or, string_bytes}
 use Rattle.tokens.specs.declared.kind.Kind.TheVariants as kind
 use Rattle.tokens.specs.Words.{Word, word}
 use Rattle.trees.specs.declared.tree.Name.{Name}

@@ -14,7 +14,7 @@ use crate::writer::Writer;
 use std::alloc::{AllocError, Global};
 use syntax::operators::{CLOSED, EXTREME, NOT};
 use tokens::kind::Kind;
-use trees::tree::{Expr, Item, Name, Parameter, Predicate, Quantifier, Sort, Unary};
+use trees::tree::{Expr, ExprKind, Item, Name, Parameter, Predicate, Quantifier, Sort, Unary};
 
 /// How many parentheses: as few as there have to be, or around every part that has operands.
 #[derive(Clone, Copy, Debug, PartialEq, Eq)]
@@ -50,7 +50,7 @@ fn put_names(writer: &mut Writer, names: &[Name]) -> Result<(), AllocError>
 // An expression in parentheses.
 #[cycle(printing)]
 fn put_enclosed(writer: &mut Writer, style: Style, expr: &Expr) -> Result<(), AllocError>
-    ensures { OnOk result (Writes writer.old writer.new (λ rest. open_ ∷ written (text (is_all style) (view expr.now)) (close ∷ rest))) }
+    ensures { OnOk result (Writes writer.old writer.new (λ rest. open_ ∷ written (text (is_all style) (view expr.now.kind)) (close ∷ rest))) }
 {
     writer.word(Kind::Open, "(")?;
     put(writer, style, expr)?;
@@ -60,7 +60,7 @@ fn put_enclosed(writer: &mut Writer, style: Style, expr: &Expr) -> Result<(), Al
 // An operand, in parentheses where it binds less tight than it has to.
 #[cycle(printing)]
 fn put_operand(writer: &mut Writer, style: Style, expr: &Expr, lowest: u8) -> Result<(), AllocError>
-    ensures { OnOk result (Writes writer.old writer.new (λ rest. written (enclosed (within_parens (is_all style) lowest (view expr.now)) (text (is_all style) (view expr.now))) rest)) }
+    ensures { OnOk result (Writes writer.old writer.new (λ rest. written (enclosed (within_parens (is_all style) lowest (view expr.now.kind)) (text (is_all style) (view expr.now.kind))) rest)) }
 {
     if level(expr) < lowest || (is_all(style) && level(expr) < CLOSED) {
         put_enclosed(writer, style, expr)
@@ -87,26 +87,26 @@ fn put_all(writer: &mut Writer, style: Style, all: &[Expr]) -> Result<(), AllocE
 
 #[cycle(printing)]
 fn put(writer: &mut Writer, style: Style, expr: &Expr) -> Result<(), AllocError>
-    ensures { OnOk result (Writes writer.old writer.new (λ rest. written (text (is_all style) (view expr.now)) rest)) }
+    ensures { OnOk result (Writes writer.old writer.new (λ rest. written (text (is_all style) (view expr.now.kind)) rest)) }
 {
-    match expr {
-        Expr::True(_) => writer.word(Kind::True, "true"),
-        Expr::False(_) => writer.word(Kind::False, "false"),
-        Expr::Empty(_) => writer.word(Kind::Empty, "empty"),
-        Expr::Number(n, _) => writer.number(*n),
-        Expr::Named(name) => writer.word(Kind::Name, name.text.as_str()),
-        Expr::Listed(all, _) => {
+    match &expr.kind {
+        ExprKind::True => writer.word(Kind::True, "true"),
+        ExprKind::False => writer.word(Kind::False, "false"),
+        ExprKind::Empty => writer.word(Kind::Empty, "empty"),
+        ExprKind::Number(n) => writer.number(*n),
+        ExprKind::Named(name) => writer.word(Kind::Name, name.text.as_str()),
+        ExprKind::Listed(all) => {
             writer.word(Kind::OpenSet, "{")?;
             put_all(writer, style, all)?;
             writer.word(Kind::CloseSet, "}")
         }
-        Expr::Call(name, all, _) => {
+        ExprKind::Call(name, all) => {
             writer.word(Kind::Name, name.text.as_str())?;
             writer.word(Kind::Open, "(")?;
             put_all(writer, style, all)?;
             writer.word(Kind::Close, ")")
         }
-        Expr::Unary(unary, inside, _) => match unary {
+        ExprKind::Unary(unary, inside) => match unary {
             Unary::Not => {
                 writer.word(Kind::Not, "~")?;
                 put_operand(writer, style, inside, NOT + 1)
@@ -124,13 +124,13 @@ fn put(writer: &mut Writer, style: Style, expr: &Expr) -> Result<(), AllocError>
                 put_enclosed(writer, style, inside)
             }
         },
-        Expr::Binary(binary, left, right, _) => {
+        ExprKind::Binary(binary, left, right) => {
             let (kind, sign) = sign_word(*binary);
             put_operand(writer, style, left, left_of(*binary))?;
             writer.word(kind, sign)?;
             put_operand(writer, style, right, right_of(*binary))
         }
-        Expr::Bound(quantifier, sort, names, body, _) => {
+        ExprKind::Bound(quantifier, sort, names, body) => {
             let (kind, word) = quantifier_word(*quantifier, *sort);
             writer.word(kind, word)?;
             put_names(writer, names)?;
@@ -176,14 +176,14 @@ fn put_free(writer: &mut Writer, sort: Sort, names: &[Name]) -> Result<(), Alloc
 
 // A formula, and the end of its item.
 fn put_formula(writer: &mut Writer, style: Style, formula: &Expr) -> Result<(), AllocError>
-    ensures { OnOk result (Writes writer.old writer.new (λ rest. written (text (is_all style) (view formula.now)) (semicolon ∷ rest))) }
+    ensures { OnOk result (Writes writer.old writer.new (λ rest. written (text (is_all style) (view formula.now.kind)) (semicolon ∷ rest))) }
 {
     put(writer, style, formula)?;
     writer.word(Kind::Semicolon, ";")
 }
 
 fn put_predicate(writer: &mut Writer, style: Style, predicate: &Predicate) -> Result<(), AllocError>
-    ensures { OnOk result (Writes writer.old writer.new (λ rest. written_item (text_item (is_all style) (defined (string_bytes predicate.now.name.text) (view_parameters predicate.now.parameters.items) (view predicate.now.body))) rest)) }
+    ensures { OnOk result (Writes writer.old writer.new (λ rest. written_item (text_item (is_all style) (defined (string_bytes predicate.now.name.text) (view_parameters predicate.now.parameters.items) (view predicate.now.body.kind))) rest)) }
 {
     writer.word(Kind::Predicate, "pred")?;
     writer.word(Kind::Name, predicate.name.text.as_str())?;
@@ -214,7 +214,7 @@ fn put_item(writer: &mut Writer, style: Style, item: &Item) -> Result<(), AllocE
 ///
 /// There is not enough memory.
 pub fn expression(heap: Global, expr: &Expr) -> Result<String, AllocError>
-    ensures { IfOk result (λ s. string_bytes s ≡ spaced (written (text false (view expr.now)) [])) }
+    ensures { IfOk result (λ s. string_bytes s ≡ spaced (written (text false (view expr.now.kind)) [])) }
 {
     let mut writer = Writer::new(heap);
     put(&mut writer, Style::Few, expr)?;

@@ -9,7 +9,7 @@ ghost use Rattle.syntax.specs.Views.{view};
 
 use syntax::operators::{CLOSED, EXTREME, NOT, tightness_of};
 use tokens::kind::Kind;
-use trees::tree::{Binary, Expr, Quantifier, Sort, Unary};
+use trees::tree::{Binary, Expr, ExprKind, Quantifier, Sort, Unary};
 
 /// The word of an operator: its kind and its text.
 pub fn sign_word(binary: Binary) -> (Kind, &'static str)
@@ -61,13 +61,13 @@ pub fn sort_word(sort: Sort) -> (Kind, &'static str)
 
 /// How tight an expression binds.
 pub fn level(expr: &Expr) -> u8
-    ensures { result ≡ level (view expr.now) }
+    ensures { result ≡ level (view expr.now.kind) }
 {
-    match expr {
-        Expr::Bound(_, _, _, _, _) => 0,
-        Expr::Unary(Unary::Not, _, _) => NOT,
-        Expr::Unary(Unary::Min, _, _) | Expr::Unary(Unary::Max, _, _) => EXTREME,
-        Expr::Binary(binary, _, _, _) => tightness_of(*binary).level,
+    match &expr.kind {
+        ExprKind::Bound(_, _, _, _) => 0,
+        ExprKind::Unary(Unary::Not, _) => NOT,
+        ExprKind::Unary(Unary::Min, _) | ExprKind::Unary(Unary::Max, _) => EXTREME,
+        ExprKind::Binary(binary, _, _) => tightness_of(*binary).level,
         _ => CLOSED,
     }
 }

@@ -1,11 +1,11 @@
 -- The words of a tree are told apart by their text, if its names are.
-use Rattle.std.proofs.Common.{◌≡◌, ◌<◌, ◌≤◌, ◌/◌, ◌%◌, ◌+◌, ◌&&◌, ◌^◌, ℕ, Bool, true, false, List, [], ◌∷◌, ◌++◌, length, map, Some, refl, ap, arith, length-append}
+use Rattle.std.proofs.Common.{◌≡◌, ◌<◌, ◌≤◌, ◌/◌, ◌%◌, ◌+◌, ◌&&◌, ℕ, Bool, true, false, List, [], ◌∷◌, ◌++◌, length, map, refl, arith, length-append}
 use Rattle.std.specs.Prelude.{decimal}
 use Rattle.std.proofs.lemmas.Fmt.{decimal_by_steps}
 use Rattle.tokens.specs.declared.kind.Kind.TheVariants as kind
 use Rattle.tokens.specs.Spelling.{is_digit, each}
 use Rattle.tokens.specs.Words.{Word, word}
-use Rattle.tokens.specs.Scan.{front, word_kind, sign_at}
+use Rattle.tokens.specs.Scan.{word_kind, sign_at}
 use Rattle.tokens.specs.Spaced.{IsAlone, AreAlone, NamesAlone}
 use Rattle.tokens.proofs.ScanLaws.{digits_front}
 use Rattle.trees.specs.declared.tree.Unary.TheVariants as unary
@@ -15,9 +15,9 @@ use Rattle.trees.specs.declared.tree.Sort.{Sort}
 use Rattle.trees.specs.declared.tree.Sort.TheVariants.{Place, Set}
 use Rattle.trees.specs.declared.tree.Quantifier.{Quantifier}
 use Rattle.trees.specs.declared.tree.Quantifier.TheVariants as quantifier
-use Rattle.syntax.specs.Plain.{Plain, yes, no, nowhere, number, digits, named, paren, listed, prefixed, joined, bound, call, Plains, none, more, sign_of, quantifier_of, names, names_more, written, list, list_more, open_, close, comma, colon, semicolon, close_set}
+use Rattle.syntax.specs.Plain.{Plain, yes, no, nowhere, number, digits, named, paren, listed, prefixed, joined, bound, call, Plains, none, more, sign_of, quantifier_of, names, names_more, written, list_more, close}
 use Rattle.syntax.specs.Parsing.{right_of, MOST}
-use Rattle.syntax.specs.Items.{PlainItem, free, predicate, assumed, claimed, sort_word, parameters, parameters_more, equal, written_item, written_items}
+use Rattle.syntax.specs.Items.{PlainItem, free, predicate, assumed, claimed, sort_word, parameters, parameters_more, written_item, written_items}
 use Rattle.syntax.specs.Printed.{left_of, enclosed, within_parens, text, texts, IsTree, AreTrees, text_item, IsTreeItem, AreTreeItems}
 
 -- words that are alone if their names are

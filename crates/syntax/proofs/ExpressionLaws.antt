@@ -1,10 +1,10 @@
 -- What an expression's loops keep, and what a list of expressions is as part of a tree.
 use Rattle.std.proofs.Common.{ℕ, zero, suc, ◌-◌, ◌<◌, ◌≡◌, max, List, [], ◌∷◌, ◌++◌, true, false, Some, None, Result, Ok, Err, refl, sym, ap, ◌∙◌, arith, string_bytes, Vec, Global}
 use mathlib.Core.Former.{Count}
-use Rattle.trees.specs.declared.position.Span.{Span}
 use Rattle.trees.specs.declared.tree.Name.{Name}
 use Rattle.trees.specs.declared.tree.Binary.{Binary}
-use Rattle.trees.specs.declared.tree.Expr.{Expr, Listed, Listed', Call, Call', Row_of-Expr, end_of-Expr, more_of-Expr, items-the_row-Expr, items_hidden-the_row-Expr-0}
+use Rattle.trees.specs.Tree.{Expr}
+use Rattle.trees.specs.declared.tree.ExprKind.{ExprKind, Listed, Listed', Call, Call', Row_of-ExprKind-Listed-0-2 as Exprs, end_of-ExprKind-Listed-0-2 as end, more_of-ExprKind-Listed-0-2 as more_of, items-the_row-ExprKind-Listed-0-2 as items_of, items_hidden-the_row-ExprKind-Listed-0-2-0 as items_hidden}
 use Rattle.syntax.specs.declared.fault.Fault.{Fault}
 use Rattle.syntax.specs.declared.fault.Fault.TheVariants.{Expected, Byte, LargeNumber, Deep, Memory}
 use Rattle.tokens.specs.declared.kind.Kind.{Kind}
@@ -14,28 +14,28 @@ use Rattle.syntax.specs.Plain.{Plain, joined, listed, call, Plains, none, more}
 use Rattle.syntax.specs.Parsing.{Stop, Reader, ◌>>=◌, right_of, operator, begins, tail, behind, within, operand, climb, parse, more_items, items, up_to, push, depth, depths}
 use Rattle.syntax.specs.Views.{Fails, view, views, view_all}
 
-views_are : (n : _) (row : Row_of-Expr n) → views row ≡ view_all (items-the_row-Expr n row)
-views_are n end_of-Expr = refl
-views_are n (more_of-Expr a rest) = ap (more (view a)) (views_are _ rest)
+views_are : (n : _) (row : Exprs n) → views row ≡ view_all (items_of n row)
+views_are n end = refl
+views_are n (more_of x _ rest) = ap (more (view x)) (views_are _ rest)
 
-abbrev row_of : Expr → (n : Count) × Row_of-Expr n
-row_of (Listed' shape row span) = (_, row)
-row_of (Call' f shape row span) = (_, row)
-row_of _ = (_, end_of-Expr)
+abbrev row_of : ExprKind → (n : Count) × Exprs n
+row_of (Listed' shape row) = (_, row)
+row_of (Call' f shape row) = (_, row)
+row_of _ = (_, end)
 
-pub listed_view : (all : Vec Expr Global) (span : Span) → view (Listed all span) ≡ listed (view_all all.items)
-listed_view all span =
-    let row = row_of (Listed all span) in
-    ap listed (views_are row.0 row.1 ∙ ap view_all (items_hidden-the_row-Expr-0 all))
+pub listed_view : (all : Vec Expr Global) → view (Listed all) ≡ listed (view_all all.items)
+listed_view all =
+    let row = row_of (Listed all) in
+    ap listed (views_are row.0 row.1 ∙ ap view_all (items_hidden all))
 
-pub call_view : (f : Name) (all : Vec Expr Global) (span : Span) → view (Call f all span) ≡ call (string_bytes f.text) (view_all all.items)
-call_view f all span =
-    let row = row_of (Call f all span) in
-    ap (call (string_bytes f.text)) (views_are row.0 row.1 ∙ ap view_all (items_hidden-the_row-Expr-0 all))
+pub call_view : (f : Name) (all : Vec Expr Global) → view (Call f all) ≡ call (string_bytes f.text) (view_all all.items)
+call_view f all =
+    let row = row_of (Call f all) in
+    ap (call (string_bytes f.text)) (views_are row.0 row.1 ∙ ap view_all (items_hidden all))
 
-pub view_push : (xs : List Expr) (x : Expr) → view_all (xs ++ x ∷ []) ≡ push (view_all xs) (view x)
+pub view_push : (xs : List Expr) (x : Expr) → view_all (xs ++ x ∷ []) ≡ push (view_all xs) (view x.kind)
 view_push [] x = refl
-view_push (y ∷ xs) x = ap (more (view y)) (view_push xs x)
+view_push (y ∷ xs) x = ap (more (view y.kind)) (view_push xs x)
 
 pub depths_push : (ts : Plains) (t : Plain) → depths (push ts t) ≡ max (depths ts) (depth t)
 depths_push none t = omega arith

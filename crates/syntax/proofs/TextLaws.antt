@@ -1,9 +1,8 @@
 -- What is read of the text of a tree's words.
-use Rattle.std.proofs.Common.{◌≡◌, ◌⊎◌, inl, inr, ℕ, Bool, List, map, Ok, Err, Some, None, Option, Result, refl, sym, ap, subst, ◌∙◌}
+use Rattle.std.proofs.Common.{◌≡◌, ◌⊎◌, inl, inr, ℕ, Bool, List, map, Ok, Some, None, Option, Result, sym, ap, subst, ◌∙◌}
 use Rattle.tokens.specs.declared.token.NoToken.{NoToken}
 use Rattle.tokens.specs.declared.token.NoToken.TheVariants as no_token
-use Rattle.tokens.specs.declared.token.Token.{Token}
-use Rattle.tokens.specs.Words.{Word, words}
+use Rattle.tokens.specs.Words.{Word}
 use Rattle.tokens.specs.Scan.{scan}
 use Rattle.tokens.specs.Spaced.{spaced, AreAlone, NamesAlone}
 use Rattle.tokens.proofs.SpacedLaws.{scan_spaced}

@@ -28,9 +28,9 @@ view_parameters ps = map view_parameter ps
 
 abbrev pub view_item : Item → PlainItem
 view_item (Free sort xs) = free sort (names_of xs.items)
-view_item (Defined p) = predicate (string_bytes p.name.text) (view_parameters p.parameters.items) (view p.body)
-view_item (Assert f) = assumed (view f)
-view_item (Formula f) = claimed (view f)
+view_item (Defined p) = predicate (string_bytes p.name.text) (view_parameters p.parameters.items) (view p.body.kind)
+view_item (Assert f) = assumed (view f.kind)
+view_item (Formula f) = claimed (view f.kind)
 
 abbrev pub view_items : List Item → List PlainItem
 view_items is = map view_item is

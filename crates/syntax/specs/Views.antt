@@ -1,8 +1,10 @@
 -- What the contracts of reading see of the code's values: trees without places, and what a fault says of reading.
 use Rattle.std.specs.Prelude.{ℕ, ◌≡◌, List, [], ◌∷◌, map, Result, Ok, Err, string_bytes}
 use Rattle.trees.specs.declared.tree.Name.{Name}
-use Rattle.trees.specs.declared.tree.Expr.{Expr, Row_of-Expr, end_of-Expr, more_of-Expr}
-use Rattle.trees.specs.declared.tree.Expr.TheVariants.{True, False, Empty, Number, Named, Listed', Unary', Binary', Bound', Call'}
+use Rattle.trees.specs.Tree.{Expr}
+use Rattle.trees.specs.declared.tree.ExprKind.{ExprKind}
+use Rattle.trees.specs.declared.tree.ExprKind.TheVariants.{True, False, Empty, Number, Named, Listed', Unary', Binary', Bound', Call'}
+use Rattle.trees.specs.declared.tree.ExprKind.{Row_of-ExprKind-Listed-0-2 as Exprs, end_of-ExprKind-Listed-0-2 as end, more_of-ExprKind-Listed-0-2 as more_of}
 use Rattle.tokens.specs.declared.token.NoToken.{NoToken}
 use Rattle.tokens.specs.declared.token.NoToken.TheVariants as no_token
 use Rattle.syntax.specs.declared.fault.Fault.{Fault}
@@ -15,25 +17,25 @@ names_of xs = map (λ x. string_bytes x.text) xs
 
 -- a tree without places
 abbrev mutual
-  pub view : Expr → Plain
-  view (True span) = yes
-  view (False span) = no
-  view (Empty span) = nowhere
-  view (Number n span) = number n
+  pub view : ExprKind → Plain
+  view True = yes
+  view False = no
+  view Empty = nowhere
+  view (Number n) = number n
   view (Named x) = named (string_bytes x.text)
-  view (Listed' shape all span) = listed (views all)
-  view (Unary' u _ a span) = prefixed u (view a)
-  view (Binary' b _ x _ y span) = joined b (view x) (view y)
-  view (Bound' q sort xs _ a span) = bound q sort (names_of xs.items) (view a)
-  view (Call' f shape all span) = call (string_bytes f.text) (views all)
+  view (Listed' shape all) = listed (views all)
+  view (Unary' u _ x _) = prefixed u (view x)
+  view (Binary' b _ x _ _ y _) = joined b (view x) (view y)
+  view (Bound' q sort xs _ x _) = bound q sort (names_of xs.items) (view x)
+  view (Call' f shape all) = call (string_bytes f.text) (views all)
 
-  pub views : {m : _} → Row_of-Expr m → Plains
-  views end_of-Expr = none
-  views (more_of-Expr a rest) = more (view a) (views rest)
+  pub views : {m : _} → Exprs m → Plains
+  views end = none
+  views (more_of x _ rest) = more (view x) (views rest)
 
 abbrev pub view_all : List Expr → Plains
 view_all [] = none
-view_all (x ∷ xs) = more (view x) (view_all xs)
+view_all (x ∷ xs) = more (view x.kind) (view_all xs)
 
 -- the fault that a text without tokens has
 abbrev pub fault_of : NoToken → Fault

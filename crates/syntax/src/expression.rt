@@ -15,7 +15,7 @@ use crate::source::{Source, front, name, names, number, operator, span, token};
 use tokens::kind::Kind;
 use tokens::token::Token;
 use trees::position::Span;
-use trees::tree::{Binary, Expr, Name, Quantifier, Sort, Unary};
+use trees::tree::{Binary, Expr, ExprKind, Name, Quantifier, Sort, Unary};
 
 /// How many expressions may be open, one within the other: a part takes one, and so do parentheses.
 pub const MOST_OPEN: u32 = 2000;
@@ -29,8 +29,8 @@ pub fn expression<'a>(
     lowest: u8,
 ) -> Result<(Part, &'a [Token]), Fault>
     requires known { length tokens.now ≤ source.now.count }
-    ensures gives { Gives (λ r. (view r.0.expr, words source.now.text.now r.1.now)) result (parse source.now.count calls lowest (words source.now.text.now tokens.now)) }
-    ensures depth { IfOk result (λ r. r.0.depth ≡ depth (view r.0.expr)) }
+    ensures gives { Gives (λ r. (view r.0.expr.kind, words source.now.text.now r.1.now)) result (parse source.now.count calls lowest (words source.now.text.now tokens.now)) }
+    ensures depth { IfOk result (λ r. r.0.depth ≡ depth (view r.0.expr.kind)) }
     ensures less { IfOk result (λ r. length r.1.now < length tokens.now) }
 {
     if calls == 0 {
@@ -54,8 +54,8 @@ fn operand<'a>(
     calls: u32,
 ) -> Result<(Part, &'a [Token]), Fault>
     requires known { length tokens.now ≤ source.now.count }
-    ensures gives { Gives (λ r. (view r.0.expr, words source.now.text.now r.1.now)) result (operand (parse source.now.count calls) source.now.count (words source.now.text.now tokens.now)) }
-    ensures depth { IfOk result (λ r. r.0.depth ≡ depth (view r.0.expr)) }
+    ensures gives { Gives (λ r. (view r.0.expr.kind, words source.now.text.now r.1.now)) result (operand (parse source.now.count calls) source.now.count (words source.now.text.now tokens.now)) }
+    ensures depth { IfOk result (λ r. r.0.depth ≡ depth (view r.0.expr.kind)) }
     ensures less { IfOk result (λ r. length r.1.now < length tokens.now) }
 {
     let [first, rest @ ..] = tokens else {
@@ -80,9 +80,9 @@ fn operand<'a>(
             named(source, name, rest, calls)
         }
         Kind::Empty => empty(source, at, rest, calls),
-        Kind::True => Ok((leaf(Expr::True(at)), rest)),
-        Kind::False => Ok((leaf(Expr::False(at)), rest)),
-        Kind::Number => Ok((leaf(Expr::Number(number(source, *first)?, at)), rest)),
+        Kind::True => Ok((leaf(at, ExprKind::True), rest)),
+        Kind::False => Ok((leaf(at, ExprKind::False), rest)),
+        Kind::Number => Ok((leaf(at, ExprKind::Number(number(source, *first)?)), rest)),
         _ => Err(Fault::Expected(Wanted::Operand, at)),
     }
 }
@@ -97,14 +97,15 @@ fn prefix<'a>(
     unary: Unary,
 ) -> Result<(Part, &'a [Token]), Fault>
     requires known { length tokens.now ≤ source.now.count }
-    ensures gives { Gives (λ r. (view r.0.expr, words source.now.text.now r.1.now)) result (prefix (parse source.now.count calls) unary (lowest_of unary) (words source.now.text.now tokens.now)) }
-    ensures depth { IfOk result (λ r. r.0.depth ≡ depth (view r.0.expr)) }
+    ensures gives { Gives (λ r. (view r.0.expr.kind, words source.now.text.now r.1.now)) result (prefix (parse source.now.count calls) unary (lowest_of unary) (words source.now.text.now tokens.now)) }
+    ensures depth { IfOk result (λ r. r.0.depth ≡ depth (view r.0.expr.kind)) }
     ensures less { IfOk result (λ r. length r.1.now < length tokens.now) }
 {
     let (inside, rest) = expression(source, tokens, calls, lowest(unary))?;
-    let place = at.to(inside.expr.span());
+    let span = at.to(inside.expr.span);
     let operand = Box::new(source.heap, inside.expr)?;
-    let whole = within(at, Expr::Unary(unary, operand, place), inside.depth)?;
+    let kind = ExprKind::Unary(unary, operand);
+    let whole = within(at, Expr { kind, span }, inside.depth)?;
     Ok((whole, rest))
 }
 
@@ -118,21 +119,18 @@ fn bound<'a>(
     quantifier: (Quantifier, Sort),
 ) -> Result<(Part, &'a [Token]), Fault>
     requires known { length tokens.now ≤ source.now.count }
-    ensures gives { Gives (λ r. (view r.0.expr, words source.now.text.now r.1.now)) result (quantified (parse source.now.count calls) source.now.count quantifier.0 quantifier.1 (words source.now.text.now tokens.now)) }
-    ensures depth { IfOk result (λ r. r.0.depth ≡ depth (view r.0.expr)) }
+    ensures gives { Gives (λ r. (view r.0.expr.kind, words source.now.text.now r.1.now)) result (quantified (parse source.now.count calls) source.now.count quantifier.0 quantifier.1 (words source.now.text.now tokens.now)) }
+    ensures depth { IfOk result (λ r. r.0.depth ≡ depth (view r.0.expr.kind)) }
     ensures less { IfOk result (λ r. length r.1.now < length tokens.now) }
 {
     let (names, rest) = names(source, tokens)?;
     let (_, rest) = token(source, rest, Kind::Colon, Wanted::More(Kind::Colon))?;
     let (inside, rest) = expression(source, rest, calls, 0)?;
-    let place = at.to(inside.expr.span());
+    let span = at.to(inside.expr.span);
     let body = Box::new(source.heap, inside.expr)?;
     let (quantifier, sort) = quantifier;
-    let whole = within(
-        at,
-        Expr::Bound(quantifier, sort, names, body, place),
-        inside.depth,
-    )?;
+    let kind = ExprKind::Bound(quantifier, sort, names, body);
+    let whole = within(at, Expr { kind, span }, inside.depth)?;
     Ok((whole, rest))
 }
 
@@ -144,8 +142,8 @@ fn enclosed<'a>(
     calls: u32,
 ) -> Result<(Part, Span, &'a [Token]), Fault>
     requires known { length tokens.now ≤ source.now.count }
-    ensures gives { Gives (λ r. (view r.0.expr, words source.now.text.now r.2.now)) result (paren_at (parse source.now.count calls) (words source.now.text.now tokens.now)) }
-    ensures depth { IfOk result (λ r. r.0.depth ≡ depth (view r.0.expr)) }
+    ensures gives { Gives (λ r. (view r.0.expr.kind, words source.now.text.now r.2.now)) result (paren_at (parse source.now.count calls) (words source.now.text.now tokens.now)) }
+    ensures depth { IfOk result (λ r. r.0.depth ≡ depth (view r.0.expr.kind)) }
     ensures less { IfOk result (λ r. length r.2.now < length tokens.now) }
 {
     let (inside, rest) = expression(source, tokens, calls, 0)?;
@@ -196,8 +194,8 @@ fn listed<'a>(
     calls: u32,
 ) -> Result<(Part, &'a [Token]), Fault>
     requires known { length tokens.now ≤ source.now.count }
-    ensures gives { Gives (λ r. (view r.0.expr, words source.now.text.now r.1.now)) result (set_at (parse source.now.count calls) source.now.count (words source.now.text.now tokens.now)) }
-    ensures depth { IfOk result (λ r. r.0.depth ≡ depth (view r.0.expr)) }
+    ensures gives { Gives (λ r. (view r.0.expr.kind, words source.now.text.now r.1.now)) result (set_at (parse source.now.count calls) source.now.count (words source.now.text.now tokens.now)) }
+    ensures depth { IfOk result (λ r. r.0.depth ≡ depth (view r.0.expr.kind)) }
     ensures less { IfOk result (λ r. length r.1.now < length tokens.now) }
 {
     let (list, rest) = list(source, tokens, calls, Kind::CloseSet)?;
@@ -214,12 +212,12 @@ fn named<'a>(
     calls: u32,
 ) -> Result<(Part, &'a [Token]), Fault>
     requires known { length tokens.now ≤ source.now.count }
-    ensures gives { Gives (λ r. (view r.0.expr, words source.now.text.now r.1.now)) result (named_at (parse source.now.count calls) source.now.count (string_bytes name.text) (words source.now.text.now tokens.now)) }
-    ensures depth { IfOk result (λ r. r.0.depth ≡ depth (view r.0.expr)) }
+    ensures gives { Gives (λ r. (view r.0.expr.kind, words source.now.text.now r.1.now)) result (named_at (parse source.now.count calls) source.now.count (string_bytes name.text) (words source.now.text.now tokens.now)) }
+    ensures depth { IfOk result (λ r. r.0.depth ≡ depth (view r.0.expr.kind)) }
     ensures less { IfOk result (λ r. length r.1.now ≤ length tokens.now) }
 {
     let Some((_, rest)) = front(source, tokens, Kind::Open) else {
-        return Ok((leaf(Expr::Named(name)), tokens));
+        return Ok((leaf(name.span, ExprKind::Named(name)), tokens));
     };
     arguments(source, name, rest, calls)
 }
@@ -233,13 +231,13 @@ fn arguments<'a>(
     calls: u32,
 ) -> Result<(Part, &'a [Token]), Fault>
     requires known { length tokens.now ≤ source.now.count }
-    ensures gives { Gives (λ r. (view r.0.expr, words source.now.text.now r.1.now)) result (arguments (parse source.now.count calls) source.now.count (string_bytes name.text) (words source.now.text.now tokens.now)) }
-    ensures depth { IfOk result (λ r. r.0.depth ≡ depth (view r.0.expr)) }
+    ensures gives { Gives (λ r. (view r.0.expr.kind, words source.now.text.now r.1.now)) result (arguments (parse source.now.count calls) source.now.count (string_bytes name.text) (words source.now.text.now tokens.now)) }
+    ensures depth { IfOk result (λ r. r.0.depth ≡ depth (view r.0.expr.kind)) }
     ensures less { IfOk result (λ r. length r.1.now ≤ length tokens.now) }
 {
     if let Some((close, rest)) = front(source, tokens, Kind::Close) {
-        let place = name.span.to(close);
-        return Ok((called_alone(source, name, place), rest));
+        let span = name.span.to(close);
+        return Ok((called_alone(source, name, span), rest));
     }
     let (list, rest) = list(source, tokens, calls, Kind::Close)?;
     let whole = call_of(name, list)?;
@@ -255,19 +253,17 @@ fn empty<'a>(
     calls: u32,
 ) -> Result<(Part, &'a [Token]), Fault>
     requires known { length tokens.now ≤ source.now.count }
-    ensures gives { Gives (λ r. (view r.0.expr, words source.now.text.now r.1.now)) result (empty_at (parse source.now.count calls) (words source.now.text.now tokens.now)) }
-    ensures depth { IfOk result (λ r. r.0.depth ≡ depth (view r.0.expr)) }
+    ensures gives { Gives (λ r. (view r.0.expr.kind, words source.now.text.now r.1.now)) result (empty_at (parse source.now.count calls) (words source.now.text.now tokens.now)) }
+    ensures depth { IfOk result (λ r. r.0.depth ≡ depth (view r.0.expr.kind)) }
     ensures less { IfOk result (λ r. length r.1.now ≤ length tokens.now) }
 {
     let Some((_, rest)) = front(source, tokens, Kind::Open) else {
-        return Ok((leaf(Expr::Empty(at)), tokens));
+        return Ok((leaf(at, ExprKind::Empty), tokens));
     };
     let (inside, close, rest) = enclosed(source, rest, calls)?;
+    let span = at.to(close);
     let operand = Box::new(source.heap, inside.expr)?;
-    let whole = within(
-        at,
-        Expr::Unary(Unary::IsEmpty, operand, at.to(close)),
-        inside.depth,
-    )?;
+    let kind = ExprKind::Unary(Unary::IsEmpty, operand);
+    let whole = within(at, Expr { kind, span }, inside.depth)?;
     Ok((whole, rest))
 }

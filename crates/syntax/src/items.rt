@@ -15,7 +15,7 @@ use trees::tree::{Expr, Item, Parameter, Predicate, Sort};
 // An expression up to a semicolon.
 fn formula<'a>(source: &Source<'_>, tokens: &'a [Token]) -> Result<(Expr, &'a [Token]), Fault>
     requires known { length tokens.now ≤ source.now.count }
-    ensures gives { Gives (λ r. (view r.0, words source.now.text.now r.1.now)) result (formula_at (parse source.now.count source.now.open) (words source.now.text.now tokens.now)) }
+    ensures gives { Gives (λ r. (view r.0.kind, words source.now.text.now r.1.now)) result (formula_at (parse source.now.count source.now.open) (words source.now.text.now tokens.now)) }
     ensures less { IfOk result (λ r. length r.1.now < length tokens.now) }
 {
     let (part, rest) = expression(source, tokens, source.open, 0)?;

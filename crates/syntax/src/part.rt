@@ -9,7 +9,7 @@ use crate::operators::{EXTREME, NOT};
 use crate::source::{Source, span};
 use tokens::token::Token;
 use trees::position::Span;
-use trees::tree::{Binary, Expr, Name, Unary};
+use trees::tree::{Binary, Expr, ExprKind, Name, Unary};
 
 /// How many parts may stand within one another.
 pub const MOST_DEPTH: u32 = 1000;
@@ -23,9 +23,9 @@ pub struct Part {
 
 /// A tree around parts of a depth, if not too many stand within one another.
 pub fn within(at: Span, expr: Expr, inside: u32) -> Result<Part, Fault>
-    requires inside { depth (view expr) ≡ inside + 1 }
-    ensures gives { Gives (λ p. view p.expr) result (within (view expr)) }
-    ensures depth { IfOk result (λ p. p.depth ≡ depth (view p.expr)) }
+    requires inside { depth (view expr.kind) ≡ inside + 1 }
+    ensures gives { Gives (λ p. view p.expr.kind) result (within (view expr.kind)) }
+    ensures depth { IfOk result (λ p. p.depth ≡ depth (view p.expr.kind)) }
 {
     if inside >= MOST_DEPTH {
         return Err(Fault::Deep(at));
@@ -44,46 +44,39 @@ pub fn joined(
     right: Part,
     behind: &[Token],
 ) -> Result<Part, Fault>
-    requires left { left.depth ≡ depth (view left.expr) }
-    requires right { right.depth ≡ depth (view right.expr) }
-    ensures gives { Gives (λ p. view p.expr) result (within (joined binary (view left.expr) (view right.expr))) }
-    ensures depth { IfOk result (λ p. p.depth ≡ depth (view p.expr)) }
+    requires left { left.depth ≡ depth (view left.expr.kind) }
+    requires right { right.depth ≡ depth (view right.expr.kind) }
+    ensures gives { Gives (λ p. view p.expr.kind) result (within (joined binary (view left.expr.kind) (view right.expr.kind))) }
+    ensures depth { IfOk result (λ p. p.depth ≡ depth (view p.expr.kind)) }
 {
     let inside = left.depth.max(right.depth);
-    let place = left.expr.span().to(right.expr.span());
+    let place = left.expr.span.to(right.expr.span);
     let first = Box::new(source.heap, left.expr)?;
     let second = Box::new(source.heap, right.expr)?;
-    within(
-        span(source, behind),
-        Expr::Binary(binary, first, second, place),
-        inside,
-    )
+    let kind = ExprKind::Binary(binary, first, second);
+    within(span(source, behind), Expr { kind, span: place }, inside)
 }
 
 // A set that lists places.
-fn set(all: Vec<Expr>, place: Span) -> Expr
+fn set(all: Vec<Expr>) -> ExprKind
     ensures { view result ≡ listed (view_all all.items) }
 {
-    Expr::Listed(all, place)
+    ExprKind::Listed(all)
 }
 
 // A predicate with its arguments.
-fn called(name: Name, all: Vec<Expr>, place: Span) -> Expr
+fn called(name: Name, all: Vec<Expr>) -> ExprKind
     ensures { view result ≡ call (string_bytes name.text) (view_all all.items) }
 {
-    Expr::Call(name, all, place)
+    ExprKind::Call(name, all)
 }
 
 /// A predicate without arguments.
-pub fn called_alone(source: &Source<'_>, name: Name, place: Span) -> Part
-    ensures expr { view result.expr ≡ call (string_bytes name.text) none }
+pub fn called_alone(source: &Source<'_>, name: Name, span: Span) -> Part
+    ensures expr { view result.expr.kind ≡ call (string_bytes name.text) none }
     ensures depth { result.depth ≡ 1 }
 {
-    let none = Vec::new(source.heap);
-    Part {
-        expr: called(name, none, place),
-        depth: 1,
-    }
+    leaf(span, called(name, Vec::new(source.heap)))
 }
 
 /// Expressions that were read, how many parts of one stand within one another, and where the sign behind them stands.
@@ -97,31 +90,37 @@ pub struct Listing {
 /// A set that lists places, from the sign at `at` on.
 pub fn set_of(at: Span, list: Listing) -> Result<Part, Fault>
     requires deep { list.depth ≡ depths (view_all list.all.items) }
-    ensures gives { Gives (λ p. view p.expr) result (within (listed (view_all list.all.items))) }
-    ensures depth { IfOk result (λ p. p.depth ≡ depth (view p.expr)) }
+    ensures gives { Gives (λ p. view p.expr.kind) result (within (listed (view_all list.all.items))) }
+    ensures depth { IfOk result (λ p. p.depth ≡ depth (view p.expr.kind)) }
 {
-    let place = at.to(list.close);
-    within(at, set(list.all, place), list.depth)
+    let span = at.to(list.close);
+    let kind = set(list.all);
+    within(at, Expr { kind, span }, list.depth)
 }
 
 /// A predicate with these arguments.
 pub fn call_of(name: Name, list: Listing) -> Result<Part, Fault>
     requires deep { list.depth ≡ depths (view_all list.all.items) }
-    ensures gives { Gives (λ p. view p.expr) result (within (call (string_bytes name.text) (view_all list.all.items))) }
-    ensures depth { IfOk result (λ p. p.depth ≡ depth (view p.expr)) }
+    ensures gives { Gives (λ p. view p.expr.kind) result (within (call (string_bytes name.text) (view_all list.all.items))) }
+    ensures depth { IfOk result (λ p. p.depth ≡ depth (view p.expr.kind)) }
 {
     let at = name.span;
-    let place = at.to(list.close);
-    within(at, called(name, list.all, place), list.depth)
+    let span = at.to(list.close);
+    let kind = called(name, list.all);
+    within(at, Expr { kind, span }, list.depth)
 }
 
 /// An expression without parts.
-pub fn leaf(expr: Expr) -> Part
-    requires { depth (view expr) ≡ 1 }
-    ensures expr { result.expr ≡ expr }
+pub fn leaf(span: Span, kind: ExprKind) -> Part
+    requires { depth (view kind) ≡ 1 }
+    ensures kind { result.expr.kind ≡ kind }
+    ensures span { result.expr.span ≡ span }
     ensures depth { result.depth ≡ 1 }
 {
-    Part { expr, depth: 1 }
+    Part {
+        expr: Expr { kind, span },
+        depth: 1,
+    }
 }
 
 /// How tight the operand of a sign or word before it has to bind.

@@ -1,7 +1,4 @@
 // The tree of a text. Whether a part is a formula, a place or a set is not told here: names decide that.
-ghost use Rattle.std.specs.Prelude.{◌≡◌};
-ghost use Rattle.trees.specs.Tree.{span_of};
-
 use crate::position::Span;
 
 #[derive(Drop)]
@@ -52,39 +49,30 @@ pub enum Quantifier {
     All,
 }
 
+/// A part of a text of some kind, and where it stands.
 #[derive(Drop)]
-pub enum Expr {
-    True(Span),
-    False(Span),
-    Empty(Span),
-    Number(u32, Span),
-    Named(Name),
-    Listed(Vec<Expr>, Span),
-    Unary(Unary, Box<Expr>, Span),
-    Binary(Binary, Box<Expr>, Box<Expr>, Span),
-    Bound(Quantifier, Sort, Vec<Name>, Box<Expr>, Span),
-    Call(Name, Vec<Expr>, Span),
+pub struct Spanned<K> {
+    pub kind: K,
+    pub span: Span,
 }
 
-impl Expr {
-    /// Where the expression stands.
-    pub fn span(&self) -> Span
-        ensures { result ≡ span_of self.now }
-    {
-        match self {
-            Expr::True(span)
-            | Expr::False(span)
-            | Expr::Empty(span)
-            | Expr::Number(_, span)
-            | Expr::Listed(_, span)
-            | Expr::Unary(_, _, span)
-            | Expr::Binary(_, _, _, span)
-            | Expr::Bound(_, _, _, _, span)
-            | Expr::Call(_, _, span) => *span,
-            Expr::Named(name) => name.span,
-        }
-    }
+/// What is said at some place of a text.
+#[derive(Drop)]
+pub enum ExprKind {
+    True,
+    False,
+    Empty,
+    Number(u32),
+    Named(Name),
+    Listed(Vec<Expr>),
+    Unary(Unary, Box<Expr>),
+    Binary(Binary, Box<Expr>, Box<Expr>),
+    Bound(Quantifier, Sort, Vec<Name>, Box<Expr>),
+    Call(Name, Vec<Expr>),
 }
+
+/// A formula or a term: what it says, and where it stands.
+pub type Expr = Spanned<ExprKind>;
 
 #[derive(Drop)]
 pub struct Parameter {

@@ -1,4 +1,4 @@
-use Rattle.std.proofs.Common.{◌≡◌, List, drop, map}
+use Rattle.std.proofs.Common.{◌≡◌, drop, map}
 use Rattle.tokens.specs.Spaced.{spaced}
 use Rattle.syntax.specs.Items.{view_items, written_items}
 use Rattle.syntax.specs.Printed.{text_item}
