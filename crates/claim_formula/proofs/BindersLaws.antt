@@ -1,7 +1,7 @@
 -- Of a name that is bound: what is said of some place or set, and of each, is what the claim that binds its number says, or the claim's opposite.
 use Rattle.std.proofs.Common.{◌≡◌, ℕ, Bool, true, false, List, ◌↔◌, sym, refl, subst}
 use Rattle.words.specs.Words.{Sets, Word, sets}
-use Rattle.claims.specs.Claims.{C, not1, some, Holds, Of, put}
+use Rattle.claims.specs.Claims.{C, not1, some, Holds, put}
 use Rattle.claims.specs.Places.{one}
 use Rattle.formulas.specs.Meaning.{Env, with_place, with_group}
 use Rattle.translation.proofs.Families.{Family, family_put}

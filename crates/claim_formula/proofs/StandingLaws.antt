@@ -1,14 +1,13 @@
 -- What sets are where their names are places and sets, and what stays where a name is bound. Claims that hold only where a set has one place.
-use Rattle.std.proofs.Common.{◌≡◌, ℕ, Bool, true, false, cond, ◌==◌, ◌||◌, List, ◌↔◌, sym, refl, ap, ◌∙◌, subst, inl, inr, suc}
+use Rattle.std.proofs.Common.{◌≡◌, ℕ, Bool, true, false, cond, ◌==◌, List, sym, refl, ap, ◌∙◌, subst, inl, inr, suc}
 use mathlib.Core.Bool.{false≢true}
 use Rattle.std.proofs.lemmas.Bool.Decides.{eqb_tells}
-use Rattle.words.specs.Words.{Sets, sets}
+use Rattle.words.specs.Words.{Sets}
 use Rattle.claims.specs.Claims.{C, within, single, next, before, not1, and1, some, Holds, Only, has, put}
 use Rattle.claims.specs.Places.{one}
 use Rattle.claims.proofs.PlacesLaws.{has_one, one_has, put_same, only_put}
 use Rattle.formulas.specs.Meaning.{Env, with_place, with_group}
 use Rattle.formulas.proofs.SetsLaws.{or_true}
-use Rattle.translation.proofs.Families.{Family}
 use Rattle.claim_formula.specs.Forced.{forces}
 use Rattle.claim_formula.specs.Saying.{Stand, bound}
 

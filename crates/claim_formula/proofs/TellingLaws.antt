@@ -1,11 +1,11 @@
 -- Formulas that are put together.
-use Rattle.std.proofs.Common.{◌≡◌, ℕ, Bool, ◌⊎◌, ◌↔◌, refl, inl, inr}
-use Rattle.words.specs.Words.{Word, sets}
+use Rattle.std.proofs.Common.{ℕ, Bool, ◌⊎◌, refl, inl, inr}
+use Rattle.words.specs.Words.{sets}
 use Rattle.claims.specs.Claims.{C, not1, and1, Of}
 use Rattle.formulas.specs.declared.formula.Formula.{Formula}
-use Rattle.formulas.specs.Meaning.{Env, Meaning}
-use Rattle.translation.proofs.Families.{Family, holds_or_not}
-use Rattle.claim_formula.specs.Saying.{Means, Says, Tells, Stand}
+use Rattle.formulas.specs.Meaning.{Env}
+use Rattle.translation.proofs.Families.{holds_or_not}
+use Rattle.claim_formula.specs.Saying.{Means, Says, Tells}
 
 -- what a formula means, it tells
 pub means_tells : (σ : ℕ → Bool) (a : Formula) (P : Env → Type 0) (c : C) → Means a P → Tells σ P c → Says σ a c

@@ -10,51 +10,64 @@ use formulas::formula::{Formula, Group, Place};
 use std::alloc::{AllocError, Global};
 
 /// The opposite.
-pub fn not(alloc: Global, a: Formula) -> Result<Formula, AllocError>
-    ensures { IfOk result (λ r. Means r (λ e. Meaning a e → ⊥)) }
+pub fn not(alloc: Global, a: Box<Formula>) -> Result<Box<Formula>, AllocError>
+    ensures { IfOk result (λ r. Means r.value (λ e. Meaning a.value e → ⊥)) }
 {
-    Ok(Formula::Not(Box::new(alloc, a)?))
+    Ok(Box::new(alloc, Formula::Not(a))?)
 }
 
 /// Both.
-pub fn both(alloc: Global, a: Formula, b: Formula) -> Result<Formula, AllocError>
-    ensures { IfOk result (λ r. Means r (λ e. Meaning a e × Meaning b e)) }
+pub fn both(alloc: Global, a: Box<Formula>, b: Box<Formula>) -> Result<Box<Formula>, AllocError>
+    ensures { IfOk result (λ r. Means r.value (λ e. Meaning a.value e × Meaning b.value e)) }
 {
-    match (a, b) {
-        (Formula::True, b) => Ok(b),
-        (a, Formula::True) => Ok(a),
-        (a, Formula::And(b, c)) => {
-            let front = both(alloc, a, Box::into_inner(b))?;
-            Ok(Formula::And(Box::new(alloc, front)?, c))
+    if let Formula::True = &*a {
+        return Ok(b);
+    }
+    match Box::into_inner(b) {
+        Formula::True => Ok(a),
+        Formula::And(b, c) => {
+            let front = both(alloc, a, b)?;
+            Ok(Box::new(alloc, Formula::And(front, c))?)
         }
-        (a, b) => Ok(Formula::And(Box::new(alloc, a)?, Box::new(alloc, b)?)),
+        b => {
+            let b = Box::new(alloc, b)?;
+            Ok(Box::new(alloc, Formula::And(a, b))?)
+        }
     }
 }
 
 /// One of them.
-pub fn either(alloc: Global, a: Formula, b: Formula) -> Result<Formula, AllocError>
-    ensures { IfOk result (λ r. Means r (λ e. Meaning a e ⊎ Meaning b e)) }
+pub fn either(alloc: Global, a: Box<Formula>, b: Box<Formula>) -> Result<Box<Formula>, AllocError>
+    ensures { IfOk result (λ r. Means r.value (λ e. Meaning a.value e ⊎ Meaning b.value e)) }
 {
-    match b {
+    match Box::into_inner(b) {
         Formula::Or(b, c) => {
-            let front = either(alloc, a, Box::into_inner(b))?;
-            Ok(Formula::Or(Box::new(alloc, front)?, c))
+            let front = either(alloc, a, b)?;
+            Ok(Box::new(alloc, Formula::Or(front, c))?)
         }
-        b => Ok(Formula::Or(Box::new(alloc, a)?, Box::new(alloc, b)?)),
+        b => {
+            let b = Box::new(alloc, b)?;
+            Ok(Box::new(alloc, Formula::Or(a, b))?)
+        }
     }
 }
 
 /// The second follows from the first.
-pub fn implies(alloc: Global, a: Formula, b: Formula) -> Result<Formula, AllocError>
-    ensures { IfOk result (λ r. Means r (λ e. Meaning a e → Meaning b e)) }
+pub fn implies(alloc: Global, a: Box<Formula>, b: Box<Formula>) -> Result<Box<Formula>, AllocError>
+    ensures { IfOk result (λ r. Means r.value (λ e. Meaning a.value e → Meaning b.value e)) }
 {
-    match (a, b) {
-        (Formula::True, b) => Ok(b),
-        (a, Formula::Implies(b, c)) => {
-            let front = both(alloc, a, Box::into_inner(b))?;
-            Ok(Formula::Implies(Box::new(alloc, front)?, c))
+    if let Formula::True = &*a {
+        return Ok(b);
+    }
+    match Box::into_inner(b) {
+        Formula::Implies(b, c) => {
+            let front = both(alloc, a, b)?;
+            Ok(Box::new(alloc, Formula::Implies(front, c))?)
         }
-        (a, b) => Ok(Formula::Implies(Box::new(alloc, a)?, Box::new(alloc, b)?)),
+        b => {
+            let b = Box::new(alloc, b)?;
+            Ok(Box::new(alloc, Formula::Implies(a, b))?)
+        }
     }
 }
 
@@ -137,20 +150,25 @@ fn lies_of(alloc: Global, x: u32, a: &Formula) -> Result<Option<Lies>, AllocErro
 }
 
 // The place behind p lies so.
-fn next_lies(alloc: Global, p: u32, l: Lies) -> Result<Formula, AllocError>
-    ensures { IfOk result (λ r. Means r (λ e. LiesAs l e (suc (e.places p)))) }
+fn next_lies(alloc: Global, p: u32, l: Lies) -> Result<Box<Formula>, AllocError>
+    ensures { IfOk result (λ r. Means r.value (λ e. LiesAs l e (suc (e.places p)))) }
 {
     let behind = Place::Succ(Box::new(alloc, Place::Named(p))?);
     match l {
-        Lies::In(g) => Ok(Formula::In(behind, g)),
-        Lies::Out(g) => not(alloc, Formula::In(behind, g)),
+        Lies::In(g) => Ok(Box::new(alloc, Formula::In(behind, g))?),
+        Lies::Out(g) => not(alloc, Box::new(alloc, Formula::In(behind, g))?),
     }
 }
 
 // What is said of place x, if it is said to be behind another.
-fn shorter(alloc: Global, x: u32, is: &Formula, a: &Formula) -> Result<Option<Formula>, AllocError>
-    ensures some { IfOk result (λ found. IfSome found (λ r. Means r (λ e. (i : ℕ) × (Meaning is.now (with_place e x i) × Meaning a.now (with_place e x i))))) }
-    ensures all { IfOk result (λ found. IfSome found (λ r. Means r (λ e. (i : ℕ) → Meaning is.now (with_place e x i) → Meaning a.now (with_place e x i)))) }
+fn shorter(
+    alloc: Global,
+    x: u32,
+    is: &Formula,
+    a: &Formula,
+) -> Result<Option<Box<Formula>>, AllocError>
+    ensures some { IfOk result (λ found. IfSome found (λ r. Means r.value (λ e. (i : ℕ) × (Meaning is.now (with_place e x i) × Meaning a.now (with_place e x i))))) }
+    ensures all { IfOk result (λ found. IfSome found (λ r. Means r.value (λ e. (i : ℕ) → Meaning is.now (with_place e x i) → Meaning a.now (with_place e x i)))) }
 {
     let Some(p) = behind_of(x, is) else {
         return Ok(None);
@@ -162,21 +180,33 @@ fn shorter(alloc: Global, x: u32, is: &Formula, a: &Formula) -> Result<Option<Fo
 }
 
 /// Some place x is as both say.
-pub fn some_place(alloc: Global, x: u32, a: Formula, b: Formula) -> Result<Formula, AllocError>
-    ensures { IfOk result (λ r. Means r (λ e. (i : ℕ) × (Meaning a (with_place e x i) × Meaning b (with_place e x i)))) }
+pub fn some_place(
+    alloc: Global,
+    x: u32,
+    a: Box<Formula>,
+    b: Box<Formula>,
+) -> Result<Box<Formula>, AllocError>
+    ensures { IfOk result (λ r. Means r.value (λ e. (i : ℕ) × (Meaning a.value (with_place e x i) × Meaning b.value (with_place e x i)))) }
 {
     if let Some(short) = shorter(alloc, x, &a, &b)? {
         return Ok(short);
     }
-    Ok(Formula::Some1(x, Box::new(alloc, both(alloc, a, b)?)?))
+    let inside = both(alloc, a, b)?;
+    Ok(Box::new(alloc, Formula::Some1(x, inside))?)
 }
 
 /// Each place x that is as the first says is as the second says.
-pub fn all_places(alloc: Global, x: u32, a: Formula, b: Formula) -> Result<Formula, AllocError>
-    ensures { IfOk result (λ r. Means r (λ e. (i : ℕ) → Meaning a (with_place e x i) → Meaning b (with_place e x i))) }
+pub fn all_places(
+    alloc: Global,
+    x: u32,
+    a: Box<Formula>,
+    b: Box<Formula>,
+) -> Result<Box<Formula>, AllocError>
+    ensures { IfOk result (λ r. Means r.value (λ e. (i : ℕ) → Meaning a.value (with_place e x i) → Meaning b.value (with_place e x i))) }
 {
     if let Some(short) = shorter(alloc, x, &a, &b)? {
         return Ok(short);
     }
-    Ok(Formula::All1(x, Box::new(alloc, implies(alloc, a, b)?)?))
+    let inside = implies(alloc, a, b)?;
+    Ok(Box::new(alloc, Formula::All1(x, inside))?)
 }

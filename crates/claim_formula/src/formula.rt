@@ -37,8 +37,8 @@ fn is_not(claim: &Claim) -> bool {
 
 // A formula for the claim.
 #[cycle(saying)]
-fn holds(alloc: Global, claim: &Claim, scope: &Scope) -> Result<Formula, Refusal>
-    ensures { IfOk result (λ r. Says (is_place scope.now) r (said claim.now)) }
+fn holds(alloc: Global, claim: &Claim, scope: &Scope) -> Result<Box<Formula>, Refusal>
+    ensures { IfOk result (λ r. Says (is_place scope.now) r.value (said claim.now)) }
 {
     match claim {
         Claim::Atom(a) => of_atom(alloc, *a, scope),
@@ -54,8 +54,8 @@ fn holds(alloc: Global, claim: &Claim, scope: &Scope) -> Result<Formula, Refusal
 
 // A formula for the claim's opposite.
 #[cycle(saying)]
-fn fails(alloc: Global, claim: &Claim, scope: &Scope) -> Result<Formula, Refusal>
-    ensures { IfOk result (λ r. Says (is_place scope.now) r (not1 (said claim.now))) }
+fn fails(alloc: Global, claim: &Claim, scope: &Scope) -> Result<Box<Formula>, Refusal>
+    ensures { IfOk result (λ r. Says (is_place scope.now) r.value (not1 (said claim.now))) }
 {
     match claim {
         Claim::Atom(a) => Ok(not(alloc, of_atom(alloc, *a, scope)?)?),
@@ -87,8 +87,8 @@ fn fails(alloc: Global, claim: &Claim, scope: &Scope) -> Result<Formula, Refusal
 
 // Some place x is as the claim says.
 #[cycle(saying)]
-fn some_place(alloc: Global, x: u32, c: &Claim, scope: &Scope) -> Result<Formula, Refusal>
-    ensures { IfOk result (λ r. (σ : ℕ → Bool) → is_place scope.now ≡ bound σ x true → is_forced x (said c.now) ≡ true → Says σ r (some1 x (said c.now))) }
+fn some_place(alloc: Global, x: u32, c: &Claim, scope: &Scope) -> Result<Box<Formula>, Refusal>
+    ensures { IfOk result (λ r. (σ : ℕ → Bool) → is_place scope.now ≡ bound σ x true → is_forced x (said c.now) ≡ true → Says σ r.value (some1 x (said c.now))) }
 {
     if let Claim::And(c, d) = c {
         let a = holds(alloc, c, scope)?;
@@ -97,13 +97,13 @@ fn some_place(alloc: Global, x: u32, c: &Claim, scope: &Scope) -> Result<Formula
         return Ok(whole);
     }
     let a = holds(alloc, c, scope)?;
-    Ok(Formula::Some1(x, Box::new(alloc, a)?))
+    Ok(Box::new(alloc, Formula::Some1(x, a))?)
 }
 
 // Each place x is as the claim's opposite says.
 #[cycle(saying)]
-fn no_place(alloc: Global, x: u32, c: &Claim, scope: &Scope) -> Result<Formula, Refusal>
-    ensures { IfOk result (λ r. (σ : ℕ → Bool) → is_place scope.now ≡ bound σ x true → is_forced x (said c.now) ≡ true → Says σ r (not1 (some1 x (said c.now)))) }
+fn no_place(alloc: Global, x: u32, c: &Claim, scope: &Scope) -> Result<Box<Formula>, Refusal>
+    ensures { IfOk result (λ r. (σ : ℕ → Bool) → is_place scope.now ≡ bound σ x true → is_forced x (said c.now) ≡ true → Says σ r.value (not1 (some1 x (said c.now)))) }
 {
     if let Claim::And(c, d) = c {
         if !is_not(c) {
@@ -114,13 +114,13 @@ fn no_place(alloc: Global, x: u32, c: &Claim, scope: &Scope) -> Result<Formula, 
         }
     }
     let a = fails(alloc, c, scope)?;
-    Ok(Formula::All1(x, Box::new(alloc, a)?))
+    Ok(Box::new(alloc, Formula::All1(x, a))?)
 }
 
 // Some set x, or some place.
 #[cycle(saying)]
-fn some(alloc: Global, x: usize, c: &Claim, scope: &Scope) -> Result<Formula, Refusal>
-    ensures { IfOk result (λ r. Says (is_place scope.now) r (some1 x (said c.now))) }
+fn some(alloc: Global, x: usize, c: &Claim, scope: &Scope) -> Result<Box<Formula>, Refusal>
+    ensures { IfOk result (λ r. Says (is_place scope.now) r.value (some1 x (said c.now))) }
 {
     let n = number(x)?;
     if forces(x, c) {
@@ -128,13 +128,13 @@ fn some(alloc: Global, x: usize, c: &Claim, scope: &Scope) -> Result<Formula, Re
         return Ok(whole);
     }
     let a = holds(alloc, c, &Scope::Set(x, &*scope))?;
-    Ok(Formula::Some2(n, Box::new(alloc, a)?))
+    Ok(Box::new(alloc, Formula::Some2(n, a))?)
 }
 
 // No set x, or no place.
 #[cycle(saying)]
-fn none(alloc: Global, x: usize, c: &Claim, scope: &Scope) -> Result<Formula, Refusal>
-    ensures { IfOk result (λ r. Says (is_place scope.now) r (not1 (some1 x (said c.now)))) }
+fn none(alloc: Global, x: usize, c: &Claim, scope: &Scope) -> Result<Box<Formula>, Refusal>
+    ensures { IfOk result (λ r. Says (is_place scope.now) r.value (not1 (some1 x (said c.now)))) }
 {
     if !ends_in_not(c) {
         let a = some(alloc, x, c, scope)?;
@@ -147,12 +147,12 @@ fn none(alloc: Global, x: usize, c: &Claim, scope: &Scope) -> Result<Formula, Re
         return Ok(whole);
     }
     let a = fails(alloc, c, &Scope::Set(x, &*scope))?;
-    Ok(Formula::All2(n, Box::new(alloc, a)?))
+    Ok(Box::new(alloc, Formula::All2(n, a))?)
 }
 
 /// A formula that means the claim. Set x of the claim is the set named x. An error where a set's number has more than 32 bits, and for memory.
-pub fn formula_of(alloc: Global, claim: &Claim) -> Result<Formula, Refusal>
-    ensures { IfOk result (λ r. (w : Word) (e : Env) → ((x i : ℕ) → sets w x i ≡ has (e.groups x) i) → Meaning r e ↔ Of (said claim.now) w) }
+pub fn formula_of(alloc: Global, claim: &Claim) -> Result<Box<Formula>, Refusal>
+    ensures { IfOk result (λ r. (w : Word) (e : Env) → ((x i : ℕ) → sets w x i ≡ has (e.groups x) i) → Meaning r.value e ↔ Of (said claim.now) w) }
 {
     let formula = holds(alloc, claim, &Scope::Free)?;
     Ok(formula)

@@ -1,6 +1,6 @@
 // Claims without parts as formulas. A set that is written as a place is that place; of another set it is said that it has one place, which gets the
 // set's number for a name: a place and a set of the same number are two names.
-ghost use Rattle.std.specs.Prelude.{◌≡◌, ℕ, suc, true, IfOk};
+ghost use Rattle.std.specs.Prelude.{◌≡◌, ℕ, suc, ◌<◌, true, IfOk};
 ghost use Rattle.claims.specs.Atoms.{atom};
 ghost use Rattle.claims.specs.Claims.{within as is_within, single as is_single, next as is_next, before as is_before, has};
 ghost use Rattle.claims.specs.Places.{one};
@@ -25,60 +25,72 @@ pub fn number(x: usize) -> Result<u32, Refusal>
 }
 
 // Place x is the one place of set x.
-fn is_point(alloc: Global, x: u32) -> Result<Formula, AllocError>
-    ensures { IfOk result (λ r. Means r (λ e. (has (e.groups x) (e.places x) ≡ true) × ((j : ℕ) → has (e.groups x) j ≡ true → has (one (e.places x)) j ≡ true))) }
+fn is_point(alloc: Global, x: u32) -> Result<Box<Formula>, AllocError>
+    ensures { IfOk result (λ r. Means r.value (λ e. (has (e.groups x) (e.places x) ≡ true) × ((j : ℕ) → has (e.groups x) j ≡ true → has (one (e.places x)) j ≡ true))) }
 {
     let only = Group::Only(Box::new(alloc, Place::Named(x))?);
-    let no_other = Formula::Sub(Group::Named(x), only);
-    let there = Formula::In(Place::Named(x), Group::Named(x));
+    let no_other = Box::new(alloc, Formula::Sub(Group::Named(x), only))?;
+    let there = Box::new(alloc, Formula::In(Place::Named(x), Group::Named(x)))?;
     both(alloc, there, no_other)
 }
 
 // The formula, of place x: where set x is written as a set, of its one place.
-fn with_point(alloc: Global, x: u32, scope: &Scope, a: Formula) -> Result<Formula, AllocError>
-    ensures { IfOk result (λ r. Means r (Point (is_place scope.now x) x (Meaning a))) }
+fn with_point(
+    alloc: Global,
+    x: u32,
+    scope: &Scope,
+    a: Box<Formula>,
+) -> Result<Box<Formula>, AllocError>
+    ensures { IfOk result (λ r. Means r.value (Point (is_place scope.now x) x (Meaning a.value))) }
 {
     if scope.is_place(x as usize) {
         return Ok(a);
     }
     let of_it = both(alloc, is_point(alloc, x)?, a)?;
-    Ok(Formula::Some1(x, Box::new(alloc, of_it)?))
+    Ok(Box::new(alloc, Formula::Some1(x, of_it))?)
 }
 
-fn within(alloc: Global, x: u32, y: u32, scope: &Scope) -> Result<Formula, AllocError>
-    ensures { IfOk result (λ r. Says (is_place scope.now) r (is_within x y)) }
+fn within(alloc: Global, x: u32, y: u32, scope: &Scope) -> Result<Box<Formula>, AllocError>
+    ensures { IfOk result (λ r. Says (is_place scope.now) r.value (is_within x y)) }
 {
     if x == y {
-        return Ok(Formula::True);
+        return Ok(Box::new(alloc, Formula::True)?);
     }
     match (scope.is_place(x as usize), scope.is_place(y as usize)) {
-        (true, true) => Ok(Formula::Same(Place::Named(x), Place::Named(y))),
-        (true, false) => Ok(Formula::In(Place::Named(x), Group::Named(y))),
+        (true, true) => Ok(Box::new(alloc, Formula::Same(Place::Named(x), Place::Named(y)))?),
+        (true, false) => Ok(Box::new(alloc, Formula::In(Place::Named(x), Group::Named(y)))?),
         (false, true) => {
             let only = Group::Only(Box::new(alloc, Place::Named(y))?);
-            Ok(Formula::Sub(Group::Named(x), only))
+            Ok(Box::new(alloc, Formula::Sub(Group::Named(x), only))?)
         }
-        (false, false) => Ok(Formula::Sub(Group::Named(x), Group::Named(y))),
+        (false, false) => Ok(Box::new(alloc, Formula::Sub(Group::Named(x), Group::Named(y)))?),
     }
 }
 
-fn single(alloc: Global, x: u32, scope: &Scope) -> Result<Formula, AllocError>
-    ensures { IfOk result (λ r. Says (is_place scope.now) r (is_single x)) }
+fn single(alloc: Global, x: u32, scope: &Scope) -> Result<Box<Formula>, AllocError>
+    ensures { IfOk result (λ r. Says (is_place scope.now) r.value (is_single x)) }
 {
-    let whole = with_point(alloc, x, scope, Formula::True)?;
+    let whole = with_point(alloc, x, scope, Box::new(alloc, Formula::True)?)?;
     Ok(whole)
 }
 
 // Place y is the one behind place x.
-fn behind(alloc: Global, x: u32, y: u32) -> Result<Formula, AllocError>
-    ensures { IfOk result (λ r. Means r (λ e. e.places y ≡ suc (e.places x))) }
+fn behind(alloc: Global, x: u32, y: u32) -> Result<Box<Formula>, AllocError>
+    ensures { IfOk result (λ r. Means r.value (λ e. e.places y ≡ suc (e.places x))) }
 {
     let place = Place::Succ(Box::new(alloc, Place::Named(x))?);
-    Ok(Formula::Same(Place::Named(y), place))
+    Ok(Box::new(alloc, Formula::Same(Place::Named(y), place))?)
 }
 
-fn next(alloc: Global, x: u32, y: u32, scope: &Scope) -> Result<Formula, AllocError>
-    ensures { IfOk result (λ r. Says (is_place scope.now) r (is_next x y)) }
+// Place y is further on than place x.
+fn further(alloc: Global, x: u32, y: u32) -> Result<Box<Formula>, AllocError>
+    ensures { IfOk result (λ r. Means r.value (λ e. e.places x < e.places y)) }
+{
+    Ok(Box::new(alloc, Formula::Less(Place::Named(x), Place::Named(y)))?)
+}
+
+fn next(alloc: Global, x: u32, y: u32, scope: &Scope) -> Result<Box<Formula>, AllocError>
+    ensures { IfOk result (λ r. Says (is_place scope.now) r.value (is_next x y)) }
 {
     let part = behind(alloc, x, y)?;
     let of_second = with_point(alloc, y, scope, part)?;
@@ -86,18 +98,18 @@ fn next(alloc: Global, x: u32, y: u32, scope: &Scope) -> Result<Formula, AllocEr
     Ok(whole)
 }
 
-fn before(alloc: Global, x: u32, y: u32, scope: &Scope) -> Result<Formula, AllocError>
-    ensures { IfOk result (λ r. Says (is_place scope.now) r (is_before x y)) }
+fn before(alloc: Global, x: u32, y: u32, scope: &Scope) -> Result<Box<Formula>, AllocError>
+    ensures { IfOk result (λ r. Says (is_place scope.now) r.value (is_before x y)) }
 {
-    let part = Formula::Less(Place::Named(x), Place::Named(y));
+    let part = further(alloc, x, y)?;
     let of_second = with_point(alloc, y, scope, part)?;
     let whole = with_point(alloc, x, scope, of_second)?;
     Ok(whole)
 }
 
 /// The formula of a claim without parts.
-pub fn of_atom(alloc: Global, a: Atom, scope: &Scope) -> Result<Formula, Refusal>
-    ensures { IfOk result (λ r. Says (is_place scope.now) r (atom a)) }
+pub fn of_atom(alloc: Global, a: Atom, scope: &Scope) -> Result<Box<Formula>, Refusal>
+    ensures { IfOk result (λ r. Says (is_place scope.now) r.value (atom a)) }
 {
     match a {
         Atom::Within(x, y) => Ok(within(alloc, number(x)?, number(y)?, scope)?),
