@@ -6,10 +6,17 @@ use formulas::name::Name;
 use std::alloc::{AllocError, Global};
 use trees::position::Span;
 use trees::tree;
-use trees::tree::{Binary, Expr, Quantifier, Sort, Unary};
+use trees::tree::{Binary, Expr, ExprKind, Quantifier, Sort, Unary};
 
 // What is printed stands in no text yet.
 const NOWHERE: Span = Span { start: 0, end: 0 };
+
+fn expr(kind: ExprKind) -> Expr {
+    Expr {
+        kind,
+        span: NOWHERE,
+    }
+}
 
 /// A name of the readable form.
 pub fn name_of(alloc: Global, word: &str) -> Result<tree::Name, AllocError> {
@@ -21,7 +28,7 @@ pub fn name_of(alloc: Global, word: &str) -> Result<tree::Name, AllocError> {
 
 fn named(alloc: Global, name: Name, known: &Known) -> Result<Expr, Refusal> {
     match known.word(name) {
-        Some(word) => Ok(Expr::Named(name_of(alloc, word)?)),
+        Some(word) => Ok(expr(ExprKind::Named(name_of(alloc, word)?))),
         None => match name {
             Name::OfPlace(x) | Name::OfGroup(x) => Err(Refusal::Unnamed(x)),
         },
@@ -31,23 +38,23 @@ fn named(alloc: Global, name: Name, known: &Known) -> Result<Expr, Refusal> {
 fn binary(alloc: Global, sign: Binary, left: Expr, right: Expr) -> Result<Expr, AllocError> {
     let left = Box::new(alloc, left)?;
     let right = Box::new(alloc, right)?;
-    Ok(Expr::Binary(sign, left, right, NOWHERE))
+    Ok(expr(ExprKind::Binary(sign, left, right)))
 }
 
 fn unary(alloc: Global, sign: Unary, inside: Expr) -> Result<Expr, AllocError> {
-    Ok(Expr::Unary(sign, Box::new(alloc, inside)?, NOWHERE))
+    Ok(expr(ExprKind::Unary(sign, Box::new(alloc, inside)?)))
 }
 
 // The place so many places behind one, or before it.
 fn moved(alloc: Global, sign: Binary, place: Expr, steps: u32) -> Result<Expr, AllocError> {
-    binary(alloc, sign, place, Expr::Number(steps, NOWHERE))
+    binary(alloc, sign, place, expr(ExprKind::Number(steps)))
 }
 
 #[cycle(terms)]
 fn of_place(alloc: Global, place: &Place, known: &Known) -> Result<Expr, Refusal> {
     match place {
         Place::Named(x) => named(alloc, Name::OfPlace(*x), known),
-        Place::First => Ok(Expr::Number(0, NOWHERE)),
+        Place::First => Ok(expr(ExprKind::Number(0))),
         Place::Succ(t) => Ok(moved(alloc, Binary::Plus, of_place(alloc, t, known)?, 1)?),
         Place::Prev(t) => Ok(moved(alloc, Binary::Minus, of_place(alloc, t, known)?, 1)?),
         Place::Least(s) => Ok(unary(alloc, Unary::Min, of_group(alloc, s, known)?)?),
@@ -59,11 +66,11 @@ fn of_place(alloc: Global, place: &Place, known: &Known) -> Result<Expr, Refusal
 fn of_group(alloc: Global, group: &Group, known: &Known) -> Result<Expr, Refusal> {
     match group {
         Group::Named(x) => named(alloc, Name::OfGroup(*x), known),
-        Group::Empty => Ok(Expr::Empty(NOWHERE)),
+        Group::Empty => Ok(expr(ExprKind::Empty)),
         Group::Only(t) => {
             let mut all = Vec::new(alloc);
             all.push(of_place(alloc, t, known)?)?;
-            Ok(Expr::Listed(all, NOWHERE))
+            Ok(expr(ExprKind::Listed(all)))
         }
         Group::Union(s, t) => {
             let left = of_group(alloc, s, known)?;
@@ -117,7 +124,7 @@ fn lies(alloc: Global, sign: Binary, t: &Place, s: &Group, known: &Known) -> Res
 #[cycle(formulas)]
 pub fn of_formula(alloc: Global, formula: &Formula, known: &Known) -> Result<Expr, Refusal> {
     match formula {
-        Formula::True => Ok(Expr::True(NOWHERE)),
+        Formula::True => Ok(expr(ExprKind::True)),
         Formula::Same(s, t) => of_places(alloc, Binary::Equal, s, t, known),
         Formula::Less(s, t) => of_places(alloc, Binary::Less, s, t, known),
         Formula::In(t, s) => lies(alloc, Binary::In, t, s, known),
@@ -149,7 +156,7 @@ pub fn of_formula(alloc: Global, formula: &Formula, known: &Known) -> Result<Exp
 #[cycle(formulas)]
 fn of_opposite(alloc: Global, formula: &Formula, known: &Known) -> Result<Expr, Refusal> {
     match formula {
-        Formula::True => Ok(Expr::False(NOWHERE)),
+        Formula::True => Ok(expr(ExprKind::False)),
         Formula::Same(s, t) => of_places(alloc, Binary::Differs, s, t, known),
         Formula::In(t, s) => lies(alloc, Binary::NotIn, t, s, known),
         other => Ok(unary(alloc, Unary::Not, of_formula(alloc, other, known)?)?),
@@ -185,17 +192,14 @@ fn bound(
 ) -> Result<Expr, AllocError> {
     let mut names = Vec::new(alloc);
     names.push(name_of(alloc, word)?)?;
-    match body {
-        Expr::Bound(other, of, more, inside, span) => {
-            if other == quantifier && of == sort {
-                for name in more {
-                    names.push(name)?;
-                }
-                return Ok(Expr::Bound(quantifier, sort, names, inside, span));
+    let body = match body.kind {
+        ExprKind::Bound(other, of, more, inside) if other == quantifier && of == sort => {
+            for name in more {
+                names.push(name)?;
             }
-            let body = Box::new(alloc, Expr::Bound(other, of, more, inside, span))?;
-            Ok(Expr::Bound(quantifier, sort, names, body, NOWHERE))
+            inside
         }
-        body => Ok(Expr::Bound(quantifier, sort, names, Box::new(alloc, body)?, NOWHERE)),
-    }
+        kind => Box::new(alloc, expr(kind))?,
+    };
+    Ok(expr(ExprKind::Bound(quantifier, sort, names, body)))
 }

@@ -3,7 +3,7 @@
 use printing::print::expression;
 use printing::signs::{left_of, level, quantifier_word, right_of, sign_word};
 use std::alloc::AllocError;
-use trees::tree::{Binary, Expr, Name};
+use trees::tree::{Binary, Expr, ExprKind, Name};
 
 // How long a line may be.
 const WIDTH: usize = 100;
@@ -54,8 +54,8 @@ pub fn put(out: &mut String, expr: &Expr, indent: usize) -> Result<(), AllocErro
     if flat.len().saturating_add(indent) <= WIDTH {
         return out.push_str(flat.as_str());
     }
-    match expr {
-        Expr::Binary(binary, left, right, _) => {
+    match &expr.kind {
+        ExprKind::Binary(binary, left, right) => {
             put_operand(out, left, left_of(*binary), indent)?;
             put_sign(out, *binary, indent)?;
             let inner = indent
@@ -63,7 +63,7 @@ pub fn put(out: &mut String, expr: &Expr, indent: usize) -> Result<(), AllocErro
                 .saturating_add(1);
             put_operand(out, right, right_of(*binary), inner)
         }
-        Expr::Bound(quantifier, sort, names, body, _) => {
+        ExprKind::Bound(quantifier, sort, names, body) => {
             put_names(out, quantifier_word(*quantifier, *sort).1, names)?;
             let inner = indent.saturating_add(STEP);
             new_line(out, inner)?;

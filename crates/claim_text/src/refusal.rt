@@ -1,4 +1,5 @@
 // Why a claim gets no text.
+use claim_formula::refusal::Refusal as NoFormula;
 use std::alloc::{AllocError, AllocFailed};
 use thiserror::Error;
 
@@ -27,5 +28,14 @@ impl From<AllocError> for Refusal {
 impl<T: Drop> From<AllocFailed<T>> for Refusal {
     fn from(_error: AllocFailed<T>) -> Refusal {
         Refusal::OutOfMemory
+    }
+}
+
+impl From<NoFormula> for Refusal {
+    fn from(refusal: NoFormula) -> Refusal {
+        match refusal {
+            NoFormula::LargeNumber(x) => Refusal::LargeNumber(x),
+            NoFormula::OutOfMemory => Refusal::OutOfMemory,
+        }
     }
 }

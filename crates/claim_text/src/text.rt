@@ -1,9 +1,9 @@
 // A claim as a whole text.
 use crate::expr::of_formula;
-use crate::formula::formula_of;
 use crate::known::{Known, check_names};
 use crate::layout::put;
 use crate::refusal::Refusal;
+use claim_formula::formula::formula_of;
 use claims::tree::Claim;
 use formulas::formula::Formula;
 use formulas::free::free_names;

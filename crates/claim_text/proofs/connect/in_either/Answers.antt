@@ -1,6 +1,0 @@
-use Rattle.formulas.specs.Meaning.{members}
-use Rattle.claim_text.proofs.LyingLaws.{union_says}
-use Rattle.claim_text.proofs.connect.in_either.Goals as goal
-
-pub returns : goal.returns
-returns c e i = rw (c.in_ok-new.ensures.ok, c.in_ok-new-2.ensures.ok) (union_says (members c.args.g e) (members c.args.h e) i)
