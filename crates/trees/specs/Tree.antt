@@ -1,2 +1,11 @@
--- The expressions that stand in a list within an expression, one behind the other: `end`, or `more` with what the next one says, its span, and the rest.
-pub use Rattle.trees.specs.declared.tree.ExprKind.{Row_of-ExprKind-Listed-0-2 as Exprs, end_of-ExprKind-Listed-0-2 as end, more_of-ExprKind-Listed-0-2 as more, items-the_row-ExprKind-Listed-0-2 as items_of}
+-- A formula or a term: what it says, and where it stands.
+use Rattle.trees.specs.declared.position.Span.{Span}
+use Rattle.trees.specs.declared.tree.Spanned.{Spanned}
+use Rattle.trees.specs.declared.tree.ExprKind.{ExprKind}
+
+abbrev pub Expr : Type 0
+Expr = Spanned ExprKind
+
+-- this is said at that place
+abbrev pub at : ExprKind → Span → Expr
+at kind span = record { kind = kind; span = span }
