@@ -1,5 +1,5 @@
 -- Faults of an operand are faults of the expression.
-use Rattle.std.proofs.Common.{◌≡◌, ℕ, length, arith, ◌⊎◌, ◌∙◌, Option, MatchOption, List, ◌∷◌, Some, None, inl, inr, refl, sym, subst, ap, string_bytes, Vec, Global, Result, Ok, Err, IfErr, IsErrAnd}
+use Rattle.std.proofs.Common.{◌≡◌, ℕ, length, arith, ◌⊎◌, ◌∙◌, Option, MatchOption, List, ◌∷◌, Some, None, inl, inr, refl, sym, subst, string_bytes, Vec, Global, Result, Ok, Err, IfErr, IsErrAnd}
 use Rattle.trees.specs.Tree.{Expr}
 use Rattle.trees.specs.declared.tree.Name.{Name}
 use Rattle.trees.specs.declared.tree.Parameter.{Parameter}

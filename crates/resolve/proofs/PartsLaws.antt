@@ -1,15 +1,14 @@
 -- Parts are smaller than what they are parts of.
-use Rattle.std.proofs.Common.{◌≡◌, ℕ, zero, suc, ◌+◌, ◌<◌, ◌≤◌, ◌⊎◌, inl, inr, List, [], ◌∷◌, ◌++◌, map, take, position, slice_get, Option, Some, None, string_bytes, refl, ap, arith}
+use Rattle.std.proofs.Common.{◌≡◌, ℕ, zero, suc, ◌+◌, ◌<◌, ◌≤◌, inl, inr, List, [], ◌∷◌, take, position, slice_get, Option, Some, None, string_bytes, refl, ap, arith}
 use Rattle.formulas.specs.declared.formula.Formula.{Formula}
 use Rattle.trees.specs.declared.tree.Unary.TheVariants.{Not, Min, Max, IsEmpty}
-use Rattle.trees.specs.declared.tree.Binary.{Binary}
 use Rattle.trees.specs.Tree.{Expr, at}
 use Rattle.trees.specs.declared.tree.ExprKind.{ExprKind}
 use Rattle.trees.specs.declared.tree.ExprKind.TheVariants.{True, False, Empty, Number, Named, Listed', Unary', Binary', Bound', Call'}
 use Rattle.trees.specs.declared.tree.Item.{Item}
 use Rattle.trees.specs.declared.tree.Item.TheVariants.{Free, Predicate as Defined, Assert, Formula as Claimed}
 use Rattle.resolve.specs.Faults.{Among}
-use Rattle.resolve.specs.Parts.{Piece, denied, halves, under, defines, one, two, body_of, called, parts_of, parts}
+use Rattle.resolve.specs.Parts.{Piece, denied, halves, defines, one, two, body_of, called, parts_of, parts}
 
 -- the signs of an expression that may be formulas
 abbrev pub size : ExprKind → ℕ

@@ -160,10 +160,7 @@ pub fn parts<'t, 'f>(heap: Global, part: Part<'t, 'f>) -> Result<Vec<Part<'t, 'f
     ensures { IfOk result (λ all. map piece_of all.items ≡ parts_of (piece_of part.entry)) }
 {
     match &part.expr.kind {
-        ExprKind::Unary(sign, a) => match sign {
-            Unary::Not => opposite(heap, part.known, a, part.formula),
-            _ => Ok(Vec::new(heap)),
-        },
+        ExprKind::Unary(Unary::Not, a) => opposite(heap, part.known, a, part.formula),
         ExprKind::Binary(sign, a, b) => joined(heap, part.known, *sign, a, b, part.formula),
         ExprKind::Bound(_, _, names, body) => {
             let inside = Part {

@@ -191,9 +191,7 @@ impl Resolver {
         self.spend(expr.span)?;
         match &expr.kind {
             ExprKind::Named(name) => self.name(name, scope),
-            ExprKind::Number(n) => {
-                Ok(Term::Place(self.further(Place::First, *n, expr.span)?))
-            },
+            ExprKind::Number(n) => Ok(Term::Place(self.further(Place::First, *n, expr.span)?)),
             ExprKind::Empty => Ok(Term::Set(Group::Empty)),
             ExprKind::Listed(all) => Ok(Term::Set(self.listed(all, scope, calls)?)),
             ExprKind::Unary(sign, a) => match sign {
