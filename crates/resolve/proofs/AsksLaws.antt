@@ -4,7 +4,7 @@ use Rattle.std.proofs.lemmas.List.{map-append, append-nil}
 use Rattle.formulas.specs.Meaning.{Env, Meaning}
 use Rattle.trees.specs.declared.tree.Name.{Name}
 use Rattle.trees.specs.declared.tree.Sort.{Sort}
-use Rattle.trees.specs.declared.tree.Expr.{Expr}
+use Rattle.trees.specs.Tree.{Expr}
 use Rattle.trees.specs.declared.tree.Item.{Item}
 use Rattle.trees.specs.declared.tree.Item.TheVariants.{Free as Declares, Predicate as defined, Assert, Formula}
 use Rattle.resolve.specs.Says.{Context, nothing, holds, define, declare, count, text_from}
@@ -84,9 +84,9 @@ written_where [] n s t l m is w = w
 written_where (Declares sort names ∷ items) n s t l m is w = written_where items (count n names.items) _ _ l m (λ e. ap (λ c. declare sort names.items n e c) (is e)) w
 written_where (defined p ∷ items) n s t l m is w = written_where items n _ _ l m (λ e. ap (λ c. define p c) (is e)) w
 written_where (Assert a ∷ items) n s t [] m is w = w
-written_where (Assert a ∷ items) n s t (x ∷ l) m is w = ((w.0.0, λ e. subst (λ c. Meaning x.formula e ↔ holds a c) (is e) (w.0.1 e)), written_where items n s t l m is w.1)
+written_where (Assert a ∷ items) n s t (x ∷ l) m is w = ((w.0.0, λ e. subst (λ c. Meaning x.formula e ↔ holds a.kind c) (is e) (w.0.1 e)), written_where items n s t l m is w.1)
 written_where (Formula a ∷ items) n s t l [] is w = w
-written_where (Formula a ∷ items) n s t l (x ∷ m) is w = ((w.0.0, λ e. subst (λ c. Meaning x.formula e ↔ holds a c) (is e) (w.0.1 e)), written_where items n s t l m is w.1)
+written_where (Formula a ∷ items) n s t l (x ∷ m) is w = ((w.0.0, λ e. subst (λ c. Meaning x.formula e ↔ holds a.kind c) (is e) (w.0.1 e)), written_where items n s t l m is w.1)
 
 -- the same is written where the names stand for the same and the count is the same
 pub written_same : (items : List Item) (j n : ℕ) (s t : Env → Context) → j ≡ n → ((e : Env) → s e ≡ t e) → (l m : List Stated) → Written items j s l m → Written items n t l m

@@ -1,44 +1,44 @@
 -- Parts are smaller than what they are parts of.
-use Rattle.std.proofs.Common.{◌≡◌, ℕ, zero, suc, ◌+◌, ◌<◌, ◌≤◌, ◌⊎◌, inl, inr, List, [], ◌∷◌, ◌++◌, map, take, position, slice_get, Option, Some, None, string_bytes, refl, ap, arith}
+use Rattle.std.proofs.Common.{◌≡◌, ℕ, zero, suc, ◌+◌, ◌<◌, ◌≤◌, inl, inr, List, [], ◌∷◌, take, position, slice_get, Option, Some, None, string_bytes, refl, ap, arith}
 use Rattle.formulas.specs.declared.formula.Formula.{Formula}
 use Rattle.trees.specs.declared.tree.Unary.TheVariants.{Not, Min, Max, IsEmpty}
-use Rattle.trees.specs.declared.tree.Binary.{Binary}
-use Rattle.trees.specs.declared.tree.Expr.{Expr}
-use Rattle.trees.specs.declared.tree.Expr.TheVariants.{True, False, Empty, Number, Named, Listed', Unary', Binary', Bound', Call'}
+use Rattle.trees.specs.Tree.{Expr, at}
+use Rattle.trees.specs.declared.tree.ExprKind.{ExprKind}
+use Rattle.trees.specs.declared.tree.ExprKind.TheVariants.{True, False, Empty, Number, Named, Listed', Unary', Binary', Bound', Call'}
 use Rattle.trees.specs.declared.tree.Item.{Item}
 use Rattle.trees.specs.declared.tree.Item.TheVariants.{Free, Predicate as Defined, Assert, Formula as Claimed}
 use Rattle.resolve.specs.Faults.{Among}
-use Rattle.resolve.specs.Parts.{Piece, denied, halves, under, defines, one, two, body_of, called, parts_of, parts}
+use Rattle.resolve.specs.Parts.{Piece, denied, halves, defines, one, two, body_of, called, parts_of, parts}
 
 -- the signs of an expression that may be formulas
-abbrev pub size : Expr → ℕ
-size (Unary' sign _ a span) = suc (size a)
-size (Binary' sign _ a _ b span) = suc (size a + size b)
-size (Bound' q sort names _ a span) = suc (size a)
+abbrev pub size : ExprKind → ℕ
+size (Unary' sign _ a s) = suc (size a)
+size (Binary' sign _ a s _ b t) = suc (size a + size b)
+size (Bound' q sort names _ a s) = suc (size a)
 size _ = 1
 
 -- the sizes of the bodies of all predicates
 abbrev pub bodies : List Item → ℕ
 bodies [] = 0
 bodies (Free sort names ∷ items) = bodies items
-bodies (Defined p ∷ items) = size p.body + bodies items
+bodies (Defined p ∷ items) = size p.body.kind + bodies items
 bodies (Assert a ∷ items) = bodies items
 bodies (Claimed a ∷ items) = bodies items
 
 abbrev pub weight : Piece → ℕ
-weight p = size p.expr + bodies p.known
+weight p = size p.expr.kind + bodies p.known
 
-some_size : (a : Expr) → 1 ≤ size a
-some_size (True span) = omega arith
-some_size (False span) = omega arith
-some_size (Empty span) = omega arith
-some_size (Number n span) = omega arith
+some_size : (a : ExprKind) → 1 ≤ size a
+some_size True = omega arith
+some_size False = omega arith
+some_size Empty = omega arith
+some_size (Number n) = omega arith
 some_size (Named x) = omega arith
-some_size (Listed' shape all span) = omega arith
-some_size (Unary' sign _ a span) = omega arith
-some_size (Binary' sign _ a _ b span) = omega arith
-some_size (Bound' q sort names _ a span) = omega arith
-some_size (Call' x shape all span) = omega arith
+some_size (Listed' shape all) = omega arith
+some_size (Unary' sign _ a s) = omega arith
+some_size (Binary' sign _ a s _ b t) = omega arith
+some_size (Bound' q sort names _ a s) = omega arith
+some_size (Call' x shape all) = omega arith
 
 bodies_behind : (item : Item) (items : List Item) → bodies (item ∷ items) ≡ bodies (item ∷ []) + bodies items
 bodies_behind (Free sort names) items = omega arith
@@ -74,28 +74,28 @@ called_smaller : (known : List Item) (i : Option ℕ) (f : Formula) (q : Piece) 
 called_smaller known None f q h = absurd h
 called_smaller known (Some i) f q h = body_smaller known i f q h
 
-one_smaller : (known : List Item) (a : Expr) (f : Option Formula) (q : Piece) → Among q (one known a f) → weight q ≤ size a + bodies known
+one_smaller : (known : List Item) (a : Expr) (f : Option Formula) (q : Piece) → Among q (one known a f) → weight q ≤ size a.kind + bodies known
 one_smaller known a None q h = absurd h
 one_smaller known a (Some f) q h = elim h [ inl e ↦ omega (arith, ap weight e) | inr n ↦ absurd n ]
 
-two_smaller : (known : List Item) (a b : Expr) (h : Option (Formula × Formula)) (q : Piece) → Among q (two known a b h) → weight q ≤ size a + size b + bodies known
+two_smaller : (known : List Item) (a b : Expr) (h : Option (Formula × Formula)) (q : Piece) → Among q (two known a b h) → weight q ≤ size a.kind + size b.kind + bodies known
 two_smaller known a b None q h = absurd h
 two_smaller known a b (Some f) q h = elim h [ inl e ↦ omega (arith, ap weight e) | inr n ↦ elim n [ inl e ↦ omega (arith, ap weight e) | inr m ↦ absurd m ] ]
 
-of_smaller : (known : List Item) (a : Expr) (f : Formula) (q : Piece) → Among q (parts_of known a f) → weight q < size a + bodies known
-of_smaller known (Unary' Not _ a span) f q h = let s = one_smaller known a (denied f) q h in omega arith
-of_smaller known (Unary' Min _ a span) f q h = absurd h
-of_smaller known (Unary' Max _ a span) f q h = absurd h
-of_smaller known (Unary' IsEmpty _ a span) f q h = absurd h
-of_smaller known (Binary' sign _ a _ b span) f q h = let s = two_smaller known a b (halves sign f) q h in omega arith
-of_smaller known (Bound' r sort names _ a span) f q h = elim h [ inl e ↦ omega (arith, ap weight e) | inr n ↦ absurd n ]
-of_smaller known (Call' x shape all span) f q h = let s = called_smaller known (position (defines (string_bytes x.text)) known) f q h in omega arith
-of_smaller known (True span) f q h = absurd h
-of_smaller known (False span) f q h = absurd h
-of_smaller known (Empty span) f q h = absurd h
-of_smaller known (Number n span) f q h = absurd h
+of_smaller : (known : List Item) (a : ExprKind) (f : Formula) (q : Piece) → Among q (parts_of known a f) → weight q < size a + bodies known
+of_smaller known (Unary' Not _ a s) f q h = let m = one_smaller known (at a s) (denied f) q h in omega arith
+of_smaller known (Unary' Min _ a s) f q h = absurd h
+of_smaller known (Unary' Max _ a s) f q h = absurd h
+of_smaller known (Unary' IsEmpty _ a s) f q h = absurd h
+of_smaller known (Binary' sign _ a s _ b t) f q h = let m = two_smaller known (at a s) (at b t) (halves sign f) q h in omega arith
+of_smaller known (Bound' r sort names _ a s) f q h = elim h [ inl e ↦ omega (arith, ap weight e) | inr n ↦ absurd n ]
+of_smaller known (Call' x shape all) f q h = let m = called_smaller known (position (defines (string_bytes x.text)) known) f q h in omega arith
+of_smaller known True f q h = absurd h
+of_smaller known False f q h = absurd h
+of_smaller known Empty f q h = absurd h
+of_smaller known (Number n) f q h = absurd h
 of_smaller known (Named x) f q h = absurd h
-of_smaller known (Listed' shape all span) f q h = absurd h
+of_smaller known (Listed' shape all) f q h = absurd h
 
 pub parts_smaller : (p q : Piece) → Among q (parts p) → weight q < weight p
-parts_smaller p q h = of_smaller p.known p.expr p.formula q h
+parts_smaller p q h = of_smaller p.known p.expr.kind p.formula q h

@@ -2,7 +2,7 @@
 use Rattle.std.proofs.Common.{◌≡◌, ℕ, suc, ◌<◌, Bool, cond, ◌==◌, ◌↔◌, List, ◌∷◌, sym, refl, ap, ◌∙◌, subst, inl, inr, arith}
 use Rattle.std.proofs.lemmas.Bool.Decides.{eqb_tells}
 use Rattle.trees.specs.declared.tree.Name.{Name}
-use Rattle.trees.specs.declared.tree.Expr.{Expr}
+use Rattle.trees.specs.declared.tree.ExprKind.{ExprKind}
 use Rattle.formulas.specs.Meaning.{Env, with_place, with_group}
 use Rattle.formulas.specs.declared.formula.Place.TheVariants.{Named as place_named}
 use Rattle.formulas.specs.declared.formula.Group.TheVariants.{Named as group_named}
@@ -24,7 +24,7 @@ context_same n (Named' x t _ outer) e f h a =
     ap (λ v. bind x.now v (context outer e)) (h.0 e f a) ∙ ap (λ c. bind x.now (meant t.now f) c) (context_same n outer e f h.1 a)
 context_same n (Defined' p _ outer) e f h a = ap (λ c. define p.now c) (context_same n outer e f h a)
 
-pub settled : (n : ℕ) (s : Scope) (x : Expr) (t : Term) → Steady n s → ((e : Env) → value x (context s e) ≡ meant t e) → Settled n t
+pub settled : (n : ℕ) (s : Scope) (x : ExprKind) (t : Term) → Steady n s → ((e : Env) → value x (context s e) ≡ meant t e) → Settled n t
 settled n s x t h is = λ e f a. sym (is e) ∙ ap (λ c. value x c) (context_same n s e f h a) ∙ is f
 
 wider : (n : ℕ) (e f : Env) → Agree (suc n) e f → Agree n e f

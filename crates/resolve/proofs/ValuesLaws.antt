@@ -3,13 +3,14 @@ use Rattle.std.proofs.Common.{◌≡◌, ◌∙◌, ℕ, ◌-◌, ◌<◌, ◌�
 use mathlib.Core.Bool.{false≢true}
 use Rattle.trees.specs.declared.tree.Parameter.{Parameter}
 use Rattle.formulas.specs.Sets.{mix}
-use Rattle.trees.specs.declared.tree.Expr.{Expr, Row_of-Expr, end_of-Expr, more_of-Expr, items-the_row-Expr}
+use Rattle.trees.specs.Tree.{Expr}
+use Rattle.trees.specs.declared.tree.ExprKind.{Row_of-ExprKind-Listed-0-2 as Exprs, end_of-ExprKind-Listed-0-2 as end, more_of-ExprKind-Listed-0-2 as more, items-the_row-ExprKind-Listed-0-2 as items_of}
 use Rattle.claims.specs.Claims.{has}
 use Rattle.resolve.specs.Says.{Value, place, set, none, set_of, IsSet, Same, Context, value, values, bind_all}
 
-pub values_are : (n : _) (row : Row_of-Expr n) (s : Context) → values row s ≡ map (λ a. value a s) (items-the_row-Expr n row)
-values_are n end_of-Expr s = refl
-values_are n (more_of-Expr a rest) s = ap (λ l. value a s ∷ l) (values_are _ rest s)
+pub values_are : (n : _) (row : Exprs n) (s : Context) → values row s ≡ map (λ a. value a.kind s) (items_of n row)
+values_are n end s = refl
+values_are n (more a _ rest) s = ap (λ l. value a s ∷ l) (values_are _ rest s)
 
 pub mix_none : (u : List Bool) → mix (λ a b. a || b) u [] ≡ u
 mix_none [] = refl

@@ -3,7 +3,7 @@ use Rattle.std.specs.Prelude.{◌≡◌, ℕ, ◌++◌, map, ◌↔◌, List, []
 use Rattle.formulas.specs.Meaning.{Env, Meaning}
 use Rattle.trees.specs.declared.tree.Name.{Name}
 use Rattle.trees.specs.declared.tree.Sort.{Sort}
-use Rattle.trees.specs.declared.tree.Expr.{Expr}
+use Rattle.trees.specs.Tree.{Expr}
 use Rattle.trees.specs.declared.tree.Item.{Item}
 use Rattle.trees.specs.declared.tree.Item.TheVariants.{Free, Predicate as defined, Assert, Formula}
 use Rattle.resolve.specs.Says.{Context, text, nothing, holds, declare, define, count}
@@ -28,7 +28,7 @@ all_hold (s ∷ l) e = Meaning s.formula e × all_hold l e
 
 -- this expression, and a formula that is true of exactly the places and sets of which it holds where the names stand for what s says
 abbrev pub Renders : Stated → Expr → (Env → Context) → Type 0
-Renders x a s = (x.expr.now ≡ a) × ((e : Env) → Meaning x.formula e ↔ holds a (s e))
+Renders x a s = (x.expr.now ≡ a) × ((e : Env) → Meaning x.formula e ↔ holds a.kind (s e))
 
 -- the assumptions and the claims of the items, one after the other, where the names before them stand for what s says and the declared ones are numbered from n on
 abbrev pub Written : List Item → ℕ → (Env → Context) → List Stated → List Stated → Type 0

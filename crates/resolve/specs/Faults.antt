@@ -1,17 +1,16 @@
 -- Which faults a text has, and where. Of a name only its sort matters, so nothing here speaks of terms or values.
-use Rattle.std.specs.Prelude.{◌≡◌, ℕ, cond, ◌⊎◌, List, [], ◌∷◌, length, string_bytes, Option, Some, None, IsSome, Vec}
+use Rattle.std.specs.Prelude.{◌≡◌, ℕ, cond, ◌⊎◌, List, [], ◌∷◌, length, string_bytes, Option, Some, None, IsSome, Vec, Box}
 use Rattle.std.specs.Str.{bytes_eq}
 use Rattle.std.specs.Global.{Global}
-use Rattle.trees.specs.Tree.{span_of}
-use Rattle.trees.specs.declared.position.Span.{Span}
+use Rattle.trees.specs.Tree.{Expr, at}
 use Rattle.trees.specs.declared.tree.Name.{Name}
 use Rattle.trees.specs.declared.tree.Sort.{Sort}
 use Rattle.trees.specs.declared.tree.Sort.TheVariants.{Place as OfPlace, Set as OfSet}
 use Rattle.trees.specs.declared.tree.Quantifier.{Quantifier}
 use Rattle.trees.specs.declared.tree.Unary.TheVariants.{Not, Min, Max, IsEmpty}
 use Rattle.trees.specs.declared.tree.Binary.TheVariants.{Iff, Implies, Or, And, In, NotIn, Sub, Equal, Differs, Less, AtMost, Greater, AtLeast, Union, Inter, Without, Plus, Minus}
-use Rattle.trees.specs.declared.tree.Expr.{Expr, Listed, Call}
-use Rattle.trees.specs.declared.tree.Expr.TheVariants.{True, False, Empty, Number, Named, Listed', Unary', Binary', Bound', Call'}
+use Rattle.trees.specs.declared.tree.ExprKind.{ExprKind, Listed, Bound, Call}
+use Rattle.trees.specs.declared.tree.ExprKind.TheVariants.{True, False, Empty, Number, Named, Listed', Unary', Binary', Bound', Call'}
 use Rattle.trees.specs.declared.tree.Parameter.{Parameter}
 use Rattle.trees.specs.declared.tree.Predicate.{Predicate}
 use Rattle.trees.specs.declared.tree.Item.{Item}
@@ -55,18 +54,18 @@ class_of_name None = None
 class_of_name (Some sort) = Some (class_of_sort sort)
 
 -- what an expression is by its own sign; a name that is not known is nothing
-abbrev pub class_of : Signature → Expr → Option Class
-class_of k (Number n span) = Some Place
-class_of k (Empty span) = Some Set
+abbrev pub class_of : Signature → ExprKind → Option Class
+class_of k (Number n) = Some Place
+class_of k Empty = Some Set
 class_of k (Named x) = class_of_name (sort_of k (string_bytes x.text))
-class_of k (Listed' shape all span) = Some Set
-class_of k (Unary' Min _ a span) = Some Place
-class_of k (Unary' Max _ a span) = Some Place
-class_of k (Binary' Union _ a _ b span) = Some Set
-class_of k (Binary' Inter _ a _ b span) = Some Set
-class_of k (Binary' Without _ a _ b span) = Some Set
-class_of k (Binary' Plus _ a _ b span) = Some Place
-class_of k (Binary' Minus _ a _ b span) = Some Place
+class_of k (Listed' shape all) = Some Set
+class_of k (Unary' Min _ a _) = Some Place
+class_of k (Unary' Max _ a _) = Some Place
+class_of k (Binary' Union _ a _ _ b _) = Some Set
+class_of k (Binary' Inter _ a _ _ b _) = Some Set
+class_of k (Binary' Without _ a _ _ b _) = Some Set
+class_of k (Binary' Plus _ a _ _ b _) = Some Place
+class_of k (Binary' Minus _ a _ _ b _) = Some Place
 class_of k _ = Some Formula
 
 abbrev pub each_of : Class → List Expr → List (Class × Expr)
@@ -84,39 +83,39 @@ side (Some Set) = Set
 side _ = Place
 
 -- the operands of a sign, each with what it has to be
-abbrev pub operands : Signature → Expr → List (Class × Expr)
-operands k (Unary' Not _ a span) = (Formula, a) ∷ []
-operands k (Unary' Min _ a span) = (Set, a) ∷ []
-operands k (Unary' Max _ a span) = (Set, a) ∷ []
-operands k (Unary' IsEmpty _ a span) = (Set, a) ∷ []
-operands k (Binary' Iff _ a _ b span) = (Formula, a) ∷ (Formula, b) ∷ []
-operands k (Binary' Implies _ a _ b span) = (Formula, a) ∷ (Formula, b) ∷ []
-operands k (Binary' Or _ a _ b span) = (Formula, a) ∷ (Formula, b) ∷ []
-operands k (Binary' And _ a _ b span) = (Formula, a) ∷ (Formula, b) ∷ []
-operands k (Binary' In _ a _ b span) = (Place, a) ∷ (Set, b) ∷ []
-operands k (Binary' NotIn _ a _ b span) = (Place, a) ∷ (Set, b) ∷ []
-operands k (Binary' Sub _ a _ b span) = (Set, a) ∷ (Set, b) ∷ []
-operands k (Binary' Equal _ a _ b span) = (side (class_of k a), a) ∷ (side (class_of k a), b) ∷ []
-operands k (Binary' Differs _ a _ b span) = (side (class_of k a), a) ∷ (side (class_of k a), b) ∷ []
-operands k (Binary' Less _ a _ b span) = (Place, a) ∷ (Place, b) ∷ []
-operands k (Binary' AtMost _ a _ b span) = (Place, a) ∷ (Place, b) ∷ []
-operands k (Binary' Greater _ a _ b span) = (Place, a) ∷ (Place, b) ∷ []
-operands k (Binary' AtLeast _ a _ b span) = (Place, a) ∷ (Place, b) ∷ []
-operands k (Binary' Union _ a _ b span) = (Set, a) ∷ (Set, b) ∷ []
-operands k (Binary' Inter _ a _ b span) = (Set, a) ∷ (Set, b) ∷ []
-operands k (Binary' Without _ a _ b span) = (Set, a) ∷ (Set, b) ∷ []
-operands k (Binary' Plus _ a _ b span) = (Place, a) ∷ []
-operands k (Binary' Minus _ a _ b span) = (Place, a) ∷ []
+abbrev pub operands : Signature → ExprKind → List (Class × Expr)
+operands k (Unary' Not _ a s) = (Formula, at a s) ∷ []
+operands k (Unary' Min _ a s) = (Set, at a s) ∷ []
+operands k (Unary' Max _ a s) = (Set, at a s) ∷ []
+operands k (Unary' IsEmpty _ a s) = (Set, at a s) ∷ []
+operands k (Binary' Iff _ a s _ b t) = (Formula, at a s) ∷ (Formula, at b t) ∷ []
+operands k (Binary' Implies _ a s _ b t) = (Formula, at a s) ∷ (Formula, at b t) ∷ []
+operands k (Binary' Or _ a s _ b t) = (Formula, at a s) ∷ (Formula, at b t) ∷ []
+operands k (Binary' And _ a s _ b t) = (Formula, at a s) ∷ (Formula, at b t) ∷ []
+operands k (Binary' In _ a s _ b t) = (Place, at a s) ∷ (Set, at b t) ∷ []
+operands k (Binary' NotIn _ a s _ b t) = (Place, at a s) ∷ (Set, at b t) ∷ []
+operands k (Binary' Sub _ a s _ b t) = (Set, at a s) ∷ (Set, at b t) ∷ []
+operands k (Binary' Equal _ a s _ b t) = (side (class_of k a), at a s) ∷ (side (class_of k a), at b t) ∷ []
+operands k (Binary' Differs _ a s _ b t) = (side (class_of k a), at a s) ∷ (side (class_of k a), at b t) ∷ []
+operands k (Binary' Less _ a s _ b t) = (Place, at a s) ∷ (Place, at b t) ∷ []
+operands k (Binary' AtMost _ a s _ b t) = (Place, at a s) ∷ (Place, at b t) ∷ []
+operands k (Binary' Greater _ a s _ b t) = (Place, at a s) ∷ (Place, at b t) ∷ []
+operands k (Binary' AtLeast _ a s _ b t) = (Place, at a s) ∷ (Place, at b t) ∷ []
+operands k (Binary' Union _ a s _ b t) = (Set, at a s) ∷ (Set, at b t) ∷ []
+operands k (Binary' Inter _ a s _ b t) = (Set, at a s) ∷ (Set, at b t) ∷ []
+operands k (Binary' Without _ a s _ b t) = (Set, at a s) ∷ (Set, at b t) ∷ []
+operands k (Binary' Plus _ a s _ _ _) = (Place, at a s) ∷ []
+operands k (Binary' Minus _ a s _ _ _) = (Place, at a s) ∷ []
 operands k _ = []
 
 -- the operand that has to be a number
-abbrev pub NeedsNumber : Expr → Expr → Type 0
-NeedsNumber (Binary' Plus _ a _ b span) n = b ≡ n
-NeedsNumber (Binary' Minus _ a _ b span) n = b ≡ n
+abbrev pub NeedsNumber : ExprKind → Expr → Type 0
+NeedsNumber (Binary' Plus _ _ _ _ b t) n = at b t ≡ n
+NeedsNumber (Binary' Minus _ _ _ _ b t) n = at b t ≡ n
 NeedsNumber _ n = ⊥
 
-abbrev pub IsNumber : Expr → Type 0
-IsNumber (Number n span) = Unit {0}
+abbrev pub IsNumber : ExprKind → Type 0
+IsNumber (Number n) = Unit {0}
 IsNumber _ = ⊥
 
 abbrev pub Among : {A : Type 0} → A → List A → Type 0
@@ -124,42 +123,43 @@ Among x [] = ⊥
 Among x (y ∷ l) = (x ≡ y) ⊎ Among x l
 
 -- truth values, connectives, quantifiers and predicates, which are made of formulas
-abbrev pub Connects : Expr → Type 0
-Connects (True span) = Unit {0}
-Connects (False span) = Unit {0}
-Connects (Unary' Not _ a span) = Unit {0}
-Connects (Binary' Iff _ a _ b span) = Unit {0}
-Connects (Binary' Implies _ a _ b span) = Unit {0}
-Connects (Binary' Or _ a _ b span) = Unit {0}
-Connects (Binary' And _ a _ b span) = Unit {0}
-Connects (Bound' q sort names _ a span) = Unit {0}
-Connects (Call' f shape all span) = Unit {0}
+abbrev pub Connects : ExprKind → Type 0
+Connects True = Unit {0}
+Connects False = Unit {0}
+Connects (Unary' Not _ a _) = Unit {0}
+Connects (Binary' Iff _ a _ _ b _) = Unit {0}
+Connects (Binary' Implies _ a _ _ b _) = Unit {0}
+Connects (Binary' Or _ a _ _ b _) = Unit {0}
+Connects (Binary' And _ a _ _ b _) = Unit {0}
+Connects (Bound' q sort names _ a _) = Unit {0}
+Connects (Call' f shape all) = Unit {0}
 Connects _ = ⊥
 
 -- an expression has this fault where it has to be of the wanted class
 pub data Faulty : Signature → Class → Expr → Fault → Type 0 where
   -- it is of another class
-  other_class : {k : Signature} {wanted c : Class} {e : Expr} → class_of k e ≡ Some c → (c ≡ wanted → ⊥) → Faulty k wanted e (OtherClass wanted c (span_of e))
+  other_class : {k : Signature} {wanted c : Class} {e : Expr} → class_of k e.kind ≡ Some c → (c ≡ wanted → ⊥) → Faulty k wanted e (OtherClass wanted c e.span)
   -- a name that is not known
-  no_name : {k : Signature} {wanted : Class} {x : Name} → sort_of k (string_bytes x.text) ≡ None → Faulty k wanted (Named x) (NoName x.span)
+  no_name : {k : Signature} {wanted : Class} {e : Expr} {x : Name} → e.kind ≡ Named x → sort_of k (string_bytes x.text) ≡ None → Faulty k wanted e (NoName x.span)
   -- no number behind + or -
-  no_number : {k : Signature} {wanted : Class} {e : Expr} (n : Expr) → NeedsNumber e n → (IsNumber n → ⊥) → Faulty k wanted e (NoNumber (span_of n))
+  no_number : {k : Signature} {wanted : Class} {e : Expr} (n : Expr) → NeedsNumber e.kind n → (IsNumber n.kind → ⊥) → Faulty k wanted e (NoNumber n.span)
   -- a predicate that is not known
-  no_predicate : {k : Signature} {x : Name} (all : Vec Expr Global) {span : Span} → predicate_of k (string_bytes x.text) ≡ None → Faulty k Formula (Call x all span) (NoPredicate x.span)
+  no_predicate : {k : Signature} {e : Expr} {x : Name} (all : Vec Expr Global) → e.kind ≡ Call x all → predicate_of k (string_bytes x.text) ≡ None → Faulty k Formula e (NoPredicate x.span)
   -- not as many arguments as the predicate has parameters
-  other_count : {k d : Signature} {p : Predicate} {x : Name} (all : Vec Expr Global) {span : Span} → predicate_of k (string_bytes x.text) ≡ Some (p, d) → (length p.parameters.items ≡ length all.items → ⊥) →
-      Faulty k Formula (Call x all span) (OtherCount (length p.parameters.items) (length all.items) span)
+  other_count : {k d : Signature} {e : Expr} {p : Predicate} {x : Name} (all : Vec Expr Global) → e.kind ≡ Call x all → predicate_of k (string_bytes x.text) ≡ Some (p, d) → (length p.parameters.items ≡ length all.items → ⊥) →
+      Faulty k Formula e (OtherCount (length p.parameters.items) (length all.items) e.span)
   -- an operand has the fault
-  in_operand : {k : Signature} {wanted c : Class} {e a : Expr} {f : Fault} → Among (c, a) (operands k e) → Faulty k c a f → Faulty k wanted e f
+  in_operand : {k : Signature} {wanted c : Class} {e a : Expr} {f : Fault} → Among (c, a) (operands k e.kind) → Faulty k c a f → Faulty k wanted e f
   -- a place of a list has it
-  in_list : {k : Signature} {wanted : Class} (all : Vec Expr Global) {span : Span} {a : Expr} {f : Fault} → Among (Place, a) (each_of Place all.items) → Faulty k Place a f → Faulty k wanted (Listed all span) f
+  in_list : {k : Signature} {wanted : Class} {e a : Expr} (all : Vec Expr Global) {f : Fault} → e.kind ≡ Listed all → Among (Place, a) (each_of Place all.items) → Faulty k Place a f → Faulty k wanted e f
   -- what is said of the names that a quantifier binds has it
-  in_bound : {k : Signature} {q : Quantifier} {sort : Sort} {names : Vec Name Global} {at : _} {a : Expr} {span : Span} {f : Fault} → Faulty (with_names sort names.items k) Formula a f → Faulty k Formula (Bound' q sort names at a span) f
+  in_bound : {k : Signature} {e : Expr} {q : Quantifier} {sort : Sort} (names : Vec Name Global) (a : Box Expr Global) {f : Fault} → e.kind ≡ Bound q sort names a → Faulty (with_names sort names.items k) Formula a.value f → Faulty k Formula e f
   -- an argument of a predicate has it
-  in_argument : {k d : Signature} {p : Predicate} {x : Name} (all : Vec Expr Global) {span : Span} {c : Class} {a : Expr} {f : Fault} → predicate_of k (string_bytes x.text) ≡ Some (p, d) → Among (c, a) (as_parameters p.parameters.items all.items) → Faulty k c a f →
-      Faulty k Formula (Call x all span) f
+  in_argument : {k d : Signature} {e a : Expr} {p : Predicate} {x : Name} (all : Vec Expr Global) {c : Class} {f : Fault} → e.kind ≡ Call x all → predicate_of k (string_bytes x.text) ≡ Some (p, d) →
+      Among (c, a) (as_parameters p.parameters.items all.items) → Faulty k c a f → Faulty k Formula e f
   -- the body of a predicate has it, where it is declared
-  in_body : {k d : Signature} {p : Predicate} {x : Name} (all : Vec Expr Global) {span : Span} {f : Fault} → predicate_of k (string_bytes x.text) ≡ Some (p, d) → Faulty (with_parameters p.parameters.items d) Formula p.body f → Faulty k Formula (Call x all span) f
+  in_body : {k d : Signature} {e : Expr} {p : Predicate} {x : Name} (all : Vec Expr Global) {f : Fault} → e.kind ≡ Call x all → predicate_of k (string_bytes x.text) ≡ Some (p, d) →
+      Faulty (with_parameters p.parameters.items d) Formula p.body f → Faulty k Formula e f
 
 -- more than can be worked on, which is no fault of the text
 abbrev pub IsLimit : Fault → Type 0

@@ -7,8 +7,9 @@ use Rattle.trees.specs.declared.tree.Name.{Name}
 use Rattle.trees.specs.declared.tree.Unary.TheVariants.{Not}
 use Rattle.trees.specs.declared.tree.Binary.{Binary}
 use Rattle.trees.specs.declared.tree.Binary.TheVariants.{Iff, Implies, Or, And}
-use Rattle.trees.specs.declared.tree.Expr.{Expr}
-use Rattle.trees.specs.declared.tree.Expr.TheVariants.{Unary', Binary', Bound', Call'}
+use Rattle.trees.specs.Tree.{Expr, at}
+use Rattle.trees.specs.declared.tree.ExprKind.{ExprKind}
+use Rattle.trees.specs.declared.tree.ExprKind.TheVariants.{Unary', Binary', Bound', Call'}
 use Rattle.trees.specs.declared.tree.Item.{Item}
 use Rattle.trees.specs.declared.tree.Item.TheVariants.{Predicate as Defined}
 use Rattle.resolve.specs.Faults.{Among}
@@ -74,15 +75,15 @@ called known None f = []
 called known (Some i) f = body_of (take i known) (slice_get known i) f
 
 -- the parts of an expression that are formulas: what a sign joins, what is said of bound names, and of a predicate its body, which knows the predicates before it
-abbrev pub parts_of : List Item → Expr → Formula → List Piece
-parts_of known (Unary' Not _ a span) f = one known a (denied f)
-parts_of known (Binary' sign _ a _ b span) f = two known a b (halves sign f)
-parts_of known (Bound' q sort names _ a span) f = record { known = known; expr = a; formula = under names.items f } ∷ []
-parts_of known (Call' x shape all span) f = called known (position (defines (string_bytes x.text)) known) f
+abbrev pub parts_of : List Item → ExprKind → Formula → List Piece
+parts_of known (Unary' Not _ a s) f = one known (at a s) (denied f)
+parts_of known (Binary' sign _ a s _ b t) f = two known (at a s) (at b t) (halves sign f)
+parts_of known (Bound' q sort names _ a s) f = record { known = known; expr = at a s; formula = under names.items f } ∷ []
+parts_of known (Call' x shape all) f = called known (position (defines (string_bytes x.text)) known) f
 parts_of known _ f = []
 
 abbrev pub parts : Piece → List Piece
-parts p = parts_of p.known p.expr p.formula
+parts p = parts_of p.known p.expr.kind p.formula
 
 abbrev pub stated_by : List Item → Stated → Piece
 stated_by items s = record { known = items; expr = s.expr.now; formula = s.formula }

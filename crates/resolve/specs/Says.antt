@@ -12,8 +12,8 @@ use Rattle.trees.specs.declared.tree.Quantifier.{Quantifier}
 use Rattle.trees.specs.declared.tree.Quantifier.TheVariants.{Some, All}
 use Rattle.trees.specs.declared.tree.Unary.TheVariants.{Not, Min, Max, IsEmpty}
 use Rattle.trees.specs.declared.tree.Binary.TheVariants.{Iff, Implies, Or, And, In, NotIn, Sub, Equal, Differs, Less, AtMost, Greater, AtLeast, Union, Inter, Without, Plus, Minus}
-use Rattle.trees.specs.declared.tree.Expr.{Expr, Row_of-Expr, end_of-Expr, more_of-Expr}
-use Rattle.trees.specs.declared.tree.Expr.TheVariants.{True, Empty, Number, Named, Listed', Unary', Binary', Bound', Call'}
+use Rattle.trees.specs.declared.tree.ExprKind.{ExprKind, Row_of-ExprKind-Listed-0-2 as Exprs, end_of-ExprKind-Listed-0-2 as end, more_of-ExprKind-Listed-0-2 as more}
+use Rattle.trees.specs.declared.tree.ExprKind.TheVariants.{True, Empty, Number, Named, Listed', Unary', Binary', Bound', Call'}
 use Rattle.trees.specs.declared.tree.Parameter.{Parameter}
 use Rattle.trees.specs.declared.tree.Predicate.{Predicate}
 use Rattle.trees.specs.declared.tree.Item.{Item}
@@ -58,23 +58,23 @@ each_place (v ∷ vs) = mix (λ a b. a || b) (one (place_of v)) (each_place vs)
 
 abbrev mutual
   -- what a term stands for
-  pub value : Expr → Context → Value
-  value (Number n span) s = place n
-  value (Empty span) s = set []
+  pub value : ExprKind → Context → Value
+  value (Number n) s = place n
+  value Empty s = set []
   value (Named x) s = s.value (string_bytes x.text)
-  value (Listed' shape all span) s = set (each_place (values all s))
-  value (Unary' Min _ a span) s = place (lowest (set_of (value a s)))
-  value (Unary' Max _ a span) s = place (highest (set_of (value a s)))
-  value (Binary' Union _ a _ b span) s = set (mix (λ x y. x || y) (set_of (value a s)) (set_of (value b s)))
-  value (Binary' Inter _ a _ b span) s = set (mix (λ x y. x && y) (set_of (value a s)) (set_of (value b s)))
-  value (Binary' Without _ a _ b span) s = set (mix (λ x y. x && not y) (set_of (value a s)) (set_of (value b s)))
-  value (Binary' Plus _ a _ b span) s = place (place_of (value a s) + place_of (value b s))
-  value (Binary' Minus _ a _ b span) s = place (place_of (value a s) - place_of (value b s))
+  value (Listed' shape all) s = set (each_place (values all s))
+  value (Unary' Min _ a _) s = place (lowest (set_of (value a s)))
+  value (Unary' Max _ a _) s = place (highest (set_of (value a s)))
+  value (Binary' Union _ a _ _ b _) s = set (mix (λ x y. x || y) (set_of (value a s)) (set_of (value b s)))
+  value (Binary' Inter _ a _ _ b _) s = set (mix (λ x y. x && y) (set_of (value a s)) (set_of (value b s)))
+  value (Binary' Without _ a _ _ b _) s = set (mix (λ x y. x && not y) (set_of (value a s)) (set_of (value b s)))
+  value (Binary' Plus _ a _ _ b _) s = place (place_of (value a s) + place_of (value b s))
+  value (Binary' Minus _ a _ _ b _) s = place (place_of (value a s) - place_of (value b s))
   value _ s = none
 
-  pub values : {m : _} → Row_of-Expr m → Context → List Value
-  values end_of-Expr s = []
-  values (more_of-Expr a rest) s = value a s ∷ values rest s
+  pub values : {m : _} → Exprs m → Context → List Value
+  values end s = []
+  values (more a _ rest) s = value a s ∷ values rest s
 
 -- the same place, or sets of the same places
 abbrev pub Same : Value → Value → Type 0
@@ -90,25 +90,25 @@ quantified All Place (x ∷ xs) f s = (i : ℕ) → quantified All Place xs f (b
 quantified All Set (x ∷ xs) f s = (u : List Bool) → quantified All Set xs f (bind x (set u) s)
 
 -- when a formula holds
-abbrev pub holds : Expr → Context → Type 0
-holds (True span) s = Unit {0}
-holds (Unary' Not _ a span) s = holds a s → ⊥
-holds (Unary' IsEmpty _ a span) s = (i : ℕ) → has (set_of (value a s)) i ≡ true → ⊥
-holds (Binary' Iff _ a _ b span) s = (holds a s → holds b s) × (holds b s → holds a s)
-holds (Binary' Implies _ a _ b span) s = holds a s → holds b s
-holds (Binary' Or _ a _ b span) s = holds a s ⊎ holds b s
-holds (Binary' And _ a _ b span) s = holds a s × holds b s
-holds (Binary' In _ a _ b span) s = has (set_of (value b s)) (place_of (value a s)) ≡ true
-holds (Binary' NotIn _ a _ b span) s = has (set_of (value b s)) (place_of (value a s)) ≡ true → ⊥
-holds (Binary' Sub _ a _ b span) s = (i : ℕ) → has (set_of (value a s)) i ≡ true → has (set_of (value b s)) i ≡ true
-holds (Binary' Equal _ a _ b span) s = Same (value a s) (value b s)
-holds (Binary' Differs _ a _ b span) s = Same (value a s) (value b s) → ⊥
-holds (Binary' Less _ a _ b span) s = place_of (value a s) < place_of (value b s)
-holds (Binary' AtMost _ a _ b span) s = place_of (value a s) ≤ place_of (value b s)
-holds (Binary' Greater _ a _ b span) s = place_of (value b s) < place_of (value a s)
-holds (Binary' AtLeast _ a _ b span) s = place_of (value b s) ≤ place_of (value a s)
-holds (Bound' q sort names _ a span) s = quantified q sort names.items (λ z. holds a z) s
-holds (Call' f shape all span) s = s.says (string_bytes f.text) (values all s)
+abbrev pub holds : ExprKind → Context → Type 0
+holds True s = Unit {0}
+holds (Unary' Not _ a _) s = holds a s → ⊥
+holds (Unary' IsEmpty _ a _) s = (i : ℕ) → has (set_of (value a s)) i ≡ true → ⊥
+holds (Binary' Iff _ a _ _ b _) s = (holds a s → holds b s) × (holds b s → holds a s)
+holds (Binary' Implies _ a _ _ b _) s = holds a s → holds b s
+holds (Binary' Or _ a _ _ b _) s = holds a s ⊎ holds b s
+holds (Binary' And _ a _ _ b _) s = holds a s × holds b s
+holds (Binary' In _ a _ _ b _) s = has (set_of (value b s)) (place_of (value a s)) ≡ true
+holds (Binary' NotIn _ a _ _ b _) s = has (set_of (value b s)) (place_of (value a s)) ≡ true → ⊥
+holds (Binary' Sub _ a _ _ b _) s = (i : ℕ) → has (set_of (value a s)) i ≡ true → has (set_of (value b s)) i ≡ true
+holds (Binary' Equal _ a _ _ b _) s = Same (value a s) (value b s)
+holds (Binary' Differs _ a _ _ b _) s = Same (value a s) (value b s) → ⊥
+holds (Binary' Less _ a _ _ b _) s = place_of (value a s) < place_of (value b s)
+holds (Binary' AtMost _ a _ _ b _) s = place_of (value a s) ≤ place_of (value b s)
+holds (Binary' Greater _ a _ _ b _) s = place_of (value b s) < place_of (value a s)
+holds (Binary' AtLeast _ a _ _ b _) s = place_of (value b s) ≤ place_of (value a s)
+holds (Bound' q sort names _ a _) s = quantified q sort names.items (λ z. holds a z) s
+holds (Call' f shape all) s = s.says (string_bytes f.text) (values all s)
 holds _ s = ⊥
 
 -- a predicate says of its arguments what its body says of its parameters, where it is declared
@@ -118,7 +118,7 @@ bind_all (p ∷ ps) [] s = s
 bind_all (p ∷ ps) (v ∷ vs) s = bind_all ps vs (bind p.name v s)
 
 abbrev pub says_of : Predicate → Context → List Value → Type 0
-says_of p s vs = holds p.body (bind_all p.parameters.items vs s)
+says_of p s vs = holds p.body.kind (bind_all p.parameters.items vs s)
 
 abbrev pub either : Bool → Type 0 → Type 0 → Type 0
 either true p q = p
@@ -149,8 +149,8 @@ abbrev pub text_from : List Item → ℕ → Env → Context → Text
 text_from [] n e s = record { assumed = Unit {0}; claimed = Unit {0} }
 text_from (Free sort names ∷ items) n e s = text_from items (count n names.items) e (declare sort names.items n e s)
 text_from (defined p ∷ items) n e s = text_from items n e (define p s)
-text_from (Assert a ∷ items) n e s = let rest = text_from items n e s in record { assumed = holds a s × rest.assumed; claimed = rest.claimed }
-text_from (Formula a ∷ items) n e s = let rest = text_from items n e s in record { assumed = rest.assumed; claimed = holds a s × rest.claimed }
+text_from (Assert a ∷ items) n e s = let rest = text_from items n e s in record { assumed = holds a.kind s × rest.assumed; claimed = rest.claimed }
+text_from (Formula a ∷ items) n e s = let rest = text_from items n e s in record { assumed = rest.assumed; claimed = holds a.kind s × rest.claimed }
 
 abbrev pub text : List Item → Env → Text
 text items e = text_from items 0 e nothing

@@ -39,7 +39,7 @@ fn span_of(item: &Item) -> Span {
             None => Span { start: 0, end: 0 },
         },
         Item::Predicate(predicate) => predicate.name.span,
-        Item::Assert(expr) | Item::Formula(expr) => expr.span(),
+        Item::Assert(expr) | Item::Formula(expr) => expr.span,
     }
 }
 

@@ -12,7 +12,7 @@ use crate::fault::{Class, Fault};
 use crate::scope::{Scope, Term};
 use crate::terms::Resolver;
 use formulas::formula::{Formula, Group};
-use trees::tree::{Binary, Expr, Unary};
+use trees::tree::{Binary, Expr, ExprKind, Unary};
 
 impl Resolver {
     // A set within another.
@@ -23,8 +23,8 @@ impl Resolver {
         scope: &Scope<'_>,
         calls: u32,
     ) -> Result<Formula, Fault>
-        ensures says { IfOk result (λ f. (e : Env) → let s = context scope.now e in Meaning f e ↔ ((i : ℕ) → has (set_of (value a.now s)) i ≡ true → has (set_of (value b.now s)) i ≡ true)) }
-        ensures sets { IfOk result (λ f. (e : Env) → IsSet (value a.now (context scope.now e)) × IsSet (value b.now (context scope.now e))) }
+        ensures says { IfOk result (λ f. (e : Env) → let s = context scope.now e in Meaning f e ↔ ((i : ℕ) → has (set_of (value a.now.kind s)) i ≡ true → has (set_of (value b.now.kind s)) i ≡ true)) }
+        ensures sets { IfOk result (λ f. (e : Env) → IsSet (value a.now.kind (context scope.now e)) × IsSet (value b.now.kind (context scope.now e))) }
         ensures faults { IfErr result (λ f. IsLimit f ⊎ (Faulty (signature scope.now) Class.Set a.now f ⊎ Faulty (signature scope.now) Class.Set b.now f)) }
     {
         let a = self.group(a, scope, calls)?;
@@ -40,7 +40,7 @@ impl Resolver {
         scope: &Scope<'_>,
         calls: u32,
     ) -> Result<Formula, Fault>
-        ensures says { IfOk result (λ f. (e : Env) → let s = context scope.now e in Meaning f e ↔ (place_of (value a.now s) < place_of (value b.now s))) }
+        ensures says { IfOk result (λ f. (e : Env) → let s = context scope.now e in Meaning f e ↔ (place_of (value a.now.kind s) < place_of (value b.now.kind s))) }
         ensures faults { IfErr result (λ f. IsLimit f ⊎ (Faulty (signature scope.now) Class.Place a.now f ⊎ Faulty (signature scope.now) Class.Place b.now f)) }
     {
         let a = self.place(a, scope, calls)?;
@@ -56,7 +56,7 @@ impl Resolver {
         scope: &Scope<'_>,
         calls: u32,
     ) -> Result<Formula, Fault>
-        ensures says { IfOk result (λ f. (e : Env) → let s = context scope.now e in Meaning f e ↔ (has (set_of (value b.now s)) (place_of (value a.now s)) ≡ true)) }
+        ensures says { IfOk result (λ f. (e : Env) → let s = context scope.now e in Meaning f e ↔ (has (set_of (value b.now.kind s)) (place_of (value a.now.kind s)) ≡ true)) }
         ensures faults { IfErr result (λ f. IsLimit f ⊎ (Faulty (signature scope.now) Class.Place a.now f ⊎ Faulty (signature scope.now) Class.Set b.now f)) }
     {
         let a = self.place(a, scope, calls)?;
@@ -66,8 +66,8 @@ impl Resolver {
 
     // Two places that are the same, or two sets.
     fn equal(&mut self, a: &Expr, b: &Expr, scope: &Scope<'_>, calls: u32) -> Result<Formula, Fault>
-        ensures says { IfOk result (λ f. (e : Env) → let s = context scope.now e in Meaning f e ↔ Same (value a.now s) (value b.now s)) }
-        ensures faults { IfErr result (λ f. let sides = side (class_of (signature scope.now) a.now) in IsLimit f ⊎ (Faulty (signature scope.now) sides a.now f ⊎ Faulty (signature scope.now) sides b.now f)) }
+        ensures says { IfOk result (λ f. (e : Env) → let s = context scope.now e in Meaning f e ↔ Same (value a.now.kind s) (value b.now.kind s)) }
+        ensures faults { IfErr result (λ f. let sides = side (class_of (signature scope.now) a.now.kind) in IsLimit f ⊎ (Faulty (signature scope.now) sides a.now f ⊎ Faulty (signature scope.now) sides b.now f)) }
     {
         match self.term(Class::Place, a, scope, calls)? {
             Term::Place(first) => {
@@ -84,7 +84,7 @@ impl Resolver {
 
     // A set without places.
     fn emptied(&mut self, a: &Expr, scope: &Scope<'_>, calls: u32) -> Result<Formula, Fault>
-        ensures says { IfOk result (λ f. (e : Env) → Meaning f e ↔ ((i : ℕ) → has (set_of (value a.now (context scope.now e))) i ≡ true → ⊥)) }
+        ensures says { IfOk result (λ f. (e : Env) → Meaning f e ↔ ((i : ℕ) → has (set_of (value a.now.kind (context scope.now e))) i ≡ true → ⊥)) }
         ensures faults { IfErr result (λ f. IsLimit f ⊎ Faulty (signature scope.now) Class.Set a.now f) }
     {
         let set = self.group(a, scope, calls)?;
@@ -93,11 +93,11 @@ impl Resolver {
 
     // What is at fault where a formula is wanted and a term stands: the term, or else that it is one.
     fn no_formula(&mut self, expr: &Expr, scope: &Scope<'_>, calls: u32) -> Fault
-        ensures { IsLimit result ⊎ ((class_of (signature scope.now) expr.now ≡ Some Class.Formula → ⊥) → Faulty (signature scope.now) Class.Formula expr.now result) }
+        ensures { IsLimit result ⊎ ((class_of (signature scope.now) expr.now.kind ≡ Some Class.Formula → ⊥) → Faulty (signature scope.now) Class.Formula expr.now result) }
     {
         match self.term(Class::Formula, expr, scope, calls) {
-            Ok(Term::Place(_)) => Fault::Class(Class::Formula, Class::Place, expr.span()),
-            Ok(Term::Set(_)) => Fault::Class(Class::Formula, Class::Set, expr.span()),
+            Ok(Term::Place(_)) => Fault::Class(Class::Formula, Class::Place, expr.span),
+            Ok(Term::Set(_)) => Fault::Class(Class::Formula, Class::Set, expr.span),
             Err(fault) => fault,
         }
     }
@@ -107,15 +107,15 @@ impl Resolver {
     /// # Errors
     /// A limit; or, unless the expression is made of formulas, a fault that it has where a formula is wanted.
     pub fn compared(&mut self, expr: &Expr, scope: &Scope<'_>, calls: u32) -> Result<Formula, Fault>
-        ensures says { IfOk result (λ f. (e : Env) → Meaning f e ↔ holds expr.now (context scope.now e)) }
-        ensures faults { IfErr result (λ f. IsLimit f ⊎ ((Connects expr.now → ⊥) → Faulty (signature scope.now) Class.Formula expr.now f)) }
+        ensures says { IfOk result (λ f. (e : Env) → Meaning f e ↔ holds expr.now.kind (context scope.now e)) }
+        ensures faults { IfErr result (λ f. IsLimit f ⊎ ((Connects expr.now.kind → ⊥) → Faulty (signature scope.now) Class.Formula expr.now f)) }
     {
-        match expr {
-            Expr::Unary(sign, a, _) => match sign {
+        match &expr.kind {
+            ExprKind::Unary(sign, a) => match sign {
                 Unary::IsEmpty => self.emptied(a, scope, calls),
                 _ => Err(self.no_formula(expr, scope, calls)),
             },
-            Expr::Binary(sign, a, b, _) => match sign {
+            ExprKind::Binary(sign, a, b) => match sign {
                 Binary::In => self.belongs(a, b, scope, calls),
                 Binary::NotIn => {
                     let formula = self.belongs(a, b, scope, calls)?;

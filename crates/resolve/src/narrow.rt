@@ -6,7 +6,7 @@ use crate::asked::{Asked, Stated};
 use crate::scope::is_same;
 use formulas::formula::Formula;
 use std::alloc::{AllocError, Global};
-use trees::tree::{Binary, Expr, Item, Name, Unary};
+use trees::tree::{Binary, Expr, ExprKind, Item, Name, Unary};
 
 /// What stands in a text, that as a formula, and the items whose predicates are known there.
 #[derive(Clone, Copy)]
@@ -159,13 +159,10 @@ fn joined<'t, 'f>(
 pub fn parts<'t, 'f>(heap: Global, part: Part<'t, 'f>) -> Result<Vec<Part<'t, 'f>>, AllocError>
     ensures { IfOk result (λ all. map piece_of all.items ≡ parts_of (piece_of part.entry)) }
 {
-    match part.expr {
-        Expr::Unary(sign, a, _) => match sign {
-            Unary::Not => opposite(heap, part.known, a, part.formula),
-            _ => Ok(Vec::new(heap)),
-        },
-        Expr::Binary(sign, a, b, _) => joined(heap, part.known, *sign, a, b, part.formula),
-        Expr::Bound(_, _, names, body, _) => {
+    match &part.expr.kind {
+        ExprKind::Unary(Unary::Not, a) => opposite(heap, part.known, a, part.formula),
+        ExprKind::Binary(sign, a, b) => joined(heap, part.known, *sign, a, b, part.formula),
+        ExprKind::Bound(_, _, names, body) => {
             let inside = Part {
                 known: part.known,
                 expr: body,
@@ -173,7 +170,7 @@ pub fn parts<'t, 'f>(heap: Global, part: Part<'t, 'f>) -> Result<Vec<Part<'t, 'f
             };
             Ok(Vec::from_array(heap, [inside])?)
         }
-        Expr::Call(name, _, _) => called(heap, part.known, name, part.formula),
+        ExprKind::Call(name, _) => called(heap, part.known, name, part.formula),
         _ => Ok(Vec::new(heap)),
     }
 }

@@ -4,7 +4,7 @@ ghost use Rattle.formulas.specs.Meaning.{Env, Meaning};
 ghost use Rattle.resolve.specs.Says.{value, holds, quantified, bind_all, given};
 ghost use Rattle.resolve.specs.Scopes.{meant, context, term_sort, signature, Settled, Steady, OverAll};
 ghost use Rattle.resolve.specs.Faults.{Faulty, IsLimit, Among, class_of_sort, with_names, with_parameters, as_parameters};
-ghost use Rattle.trees.specs.declared.tree.Expr.{Expr};
+ghost use Rattle.trees.specs.Tree.{Expr};
 ghost use Rattle.resolve.specs.declared.fault.Class.{Class};
 
 use crate::built::{and, every_place, every_set, implies, negation, or, some_place, some_set};
@@ -13,7 +13,7 @@ use crate::scope::{Scope, Term, defined};
 use crate::terms::{Resolver, inner};
 use formulas::formula::{Formula, Group, Place};
 use std::alloc::{AllocError, Global};
-use trees::tree::{Binary, Expr, Name, Parameter, Quantifier, Sort, Unary};
+use trees::tree::{Binary, Expr, ExprKind, Name, Parameter, Quantifier, Sort, Unary};
 
 /// The term of a name with a number.
 pub fn numbered(sort: Sort, number: u32) -> Term
@@ -59,22 +59,22 @@ impl Resolver {
         calls: u32,
     ) -> Result<Formula, Fault>
         requires { Steady level scope.now }
-        ensures says { IfOk result (λ f. (e : Env) → Meaning f e ↔ holds expr.now (context scope.now e)) }
+        ensures says { IfOk result (λ f. (e : Env) → Meaning f e ↔ holds expr.now.kind (context scope.now e)) }
         ensures faults { IfErr result (λ f. IsLimit f ⊎ Faulty (signature scope.now) Class.Formula expr.now f) }
     {
-        let calls = inner(calls, expr.span())?;
-        self.spend(expr.span())?;
-        match expr {
-            Expr::True(_) => Ok(Formula::True),
-            Expr::False(_) => Ok(negation(self.heap, Formula::True)?),
-            Expr::Unary(sign, a, _) => match sign {
+        let calls = inner(calls, expr.span)?;
+        self.spend(expr.span)?;
+        match &expr.kind {
+            ExprKind::True => Ok(Formula::True),
+            ExprKind::False => Ok(negation(self.heap, Formula::True)?),
+            ExprKind::Unary(sign, a) => match sign {
                 Unary::Not => {
                     let a = self.formula(a, scope, level, calls)?;
                     Ok(negation(self.heap, a)?)
                 }
                 _ => self.compared(expr, scope, calls),
             },
-            Expr::Binary(sign, a, b, _) => match sign {
+            ExprKind::Binary(sign, a, b) => match sign {
                 Binary::And => {
                     let a = self.formula(a, scope, level, calls)?;
                     let b = self.formula(b, scope, level, calls)?;
@@ -93,16 +93,16 @@ impl Resolver {
                 }
                 _ => self.compared(expr, scope, calls),
             },
-            Expr::Bound(quantifier, sort, names, body, _) => {
+            ExprKind::Bound(quantifier, sort, names, body) => {
                 self.bound(*quantifier, *sort, names, body, scope, level, calls)
             }
-            Expr::Call(name, arguments, span) => {
+            ExprKind::Call(name, arguments) => {
                 let Some(known) = defined(scope, name) else {
                     return Err(Fault::Predicate(name.span));
                 };
                 let wanted = known.predicate.parameters.len();
                 if wanted != arguments.len() {
-                    return Err(Fault::Arguments(wanted, arguments.len(), *span));
+                    return Err(Fault::Arguments(wanted, arguments.len(), expr.span));
                 }
                 self.expanded(
                     &known.predicate.parameters,
@@ -128,10 +128,10 @@ impl Resolver {
         calls: u32,
     ) -> Result<Formula, Fault>
         requires { Steady level scope.now }
-        ensures says { IfOk result (λ f. (e : Env) → Meaning f e ↔ (holds a.now (context scope.now e) → holds b.now (context scope.now e))) }
+        ensures says { IfOk result (λ f. (e : Env) → Meaning f e ↔ (holds a.now.kind (context scope.now e) → holds b.now.kind (context scope.now e))) }
         ensures faults { IfErr result (λ f. IsLimit f ⊎ (Faulty (signature scope.now) Class.Formula a.now f ⊎ Faulty (signature scope.now) Class.Formula b.now f)) }
     {
-        let calls = inner(calls, a.span())?;
+        let calls = inner(calls, a.span)?;
         let a = self.formula(a, scope, level, calls)?;
         let b = self.formula(b, scope, level, calls)?;
         Ok(implies(self.heap, a, b)?)
@@ -150,10 +150,10 @@ impl Resolver {
         calls: u32,
     ) -> Result<Formula, Fault>
         requires { Steady level scope.now }
-        ensures says { IfOk result (λ f. (e : Env) → Meaning f e ↔ quantified quantifier sort names.now (λ z. holds body.now z) (context scope.now e)) }
+        ensures says { IfOk result (λ f. (e : Env) → Meaning f e ↔ quantified quantifier sort names.now (λ z. holds body.now.kind z) (context scope.now e)) }
         ensures faults { IfErr result (λ f. IsLimit f ⊎ Faulty (with_names sort names.now (signature scope.now)) Class.Formula body.now f) }
     {
-        let calls = inner(calls, body.span())?;
+        let calls = inner(calls, body.span)?;
         let [first, others @ ..] = names else {
             return self.formula(body, scope, level, calls);
         };
@@ -181,10 +181,10 @@ impl Resolver {
     ) -> Result<Formula, Fault>
         requires inside { Steady level scope.now }
         requires outside { Steady level around.now }
-        ensures says { IfOk result (λ f. (e : Env) → Meaning f e ↔ holds body.now (bind_all parameters.now (map (λ a. value a (context around.now e)) arguments.now) (context scope.now e))) }
+        ensures says { IfOk result (λ f. (e : Env) → Meaning f e ↔ holds body.now.kind (bind_all parameters.now (map (λ a. value a.kind (context around.now e)) arguments.now) (context scope.now e))) }
         ensures faults { IfErr result (λ f. IsLimit f ⊎ (length parameters.now ≡ length arguments.now → ((c : Class) × ((a : Expr) × (Among (c, a) (as_parameters parameters.now arguments.now) × Faulty (signature around.now) c a f))) ⊎ Faulty (with_parameters parameters.now (signature scope.now)) Class.Formula body.now f)) }
     {
-        let calls = inner(calls, body.span())?;
+        let calls = inner(calls, body.span)?;
         let [parameter, others @ ..] = parameters else {
             return self.formula(body, scope, level, calls);
         };
@@ -204,7 +204,7 @@ impl Resolver {
         scope: &Scope<'_>,
         calls: u32,
     ) -> Result<Term, Fault>
-        ensures says { IfOk result (λ t. (e : Env) → value term.now (context scope.now e) ≡ meant t e) }
+        ensures says { IfOk result (λ t. (e : Env) → value term.now.kind (context scope.now e) ≡ meant t e) }
         ensures sorts { IfOk result (λ t. term_sort t ≡ sort) }
         ensures faults { IfErr result (λ f. IsLimit f ⊎ Faulty (signature scope.now) (class_of_sort sort) term.now f) }
     {

@@ -6,8 +6,7 @@ ghost use Rattle.resolve.specs.Says.{value, place, set, each_place};
 ghost use Rattle.resolve.specs.declared.scope.Scope.{Scope as Known};
 ghost use Rattle.resolve.specs.Scopes.{meant, context, term_sort, signature};
 ghost use Rattle.resolve.specs.Faults.{Faulty, sort_of, IsLimit, IsNumber, Among, class_of, class_of_sort, each_of};
-ghost use Rattle.trees.specs.Tree.{span_of};
-ghost use Rattle.trees.specs.declared.tree.Expr.{Expr};
+ghost use Rattle.trees.specs.Tree.{Expr};
 ghost use Rattle.resolve.specs.declared.fault.Class.{Class};
 
 use crate::built::{inter, least, minus, most, only, prev, succ, union};
@@ -16,7 +15,7 @@ use crate::scope::{Scope, Term, named};
 use formulas::formula::{Group, Place};
 use std::alloc::Global;
 use trees::position::Span;
-use trees::tree::{Binary, Expr, Name, Unary};
+use trees::tree::{Binary, Expr, ExprKind, Name, Unary};
 
 /// How many parts a text may have once its predicates are expanded.
 pub const MOST_PARTS: u32 = 4000;
@@ -43,12 +42,12 @@ pub fn inner(calls: u32, span: Span) -> Result<u32, Fault>
 
 // The number that stands behind `+` or `-`.
 fn number(expr: &Expr) -> Result<u32, Fault>
-    ensures means { IfOk result (λ n. (s : Known) (e : Env) → value expr.now (context s e) ≡ place n) }
-    ensures faults { IfErr result (λ f. (IsNumber expr.now → ⊥) × f ≡ Fault.Number (span_of expr.now)) }
+    ensures means { IfOk result (λ n. (s : Known) (e : Env) → value expr.now.kind (context s e) ≡ place n) }
+    ensures faults { IfErr result (λ f. (IsNumber expr.now.kind → ⊥) × f ≡ Fault.Number (expr.now.span)) }
 {
-    match expr {
-        Expr::Number(n, _) => Ok(*n),
-        _ => Err(Fault::Number(expr.span())),
+    match &expr.kind {
+        ExprKind::Number(n) => Ok(*n),
+        _ => Err(Fault::Number(expr.span)),
     }
 }
 
@@ -184,18 +183,18 @@ impl Resolver {
         scope: &Scope<'_>,
         calls: u32,
     ) -> Result<Term, Fault>
-        ensures means { IfOk result (λ t. (e : Env) → value expr.now (context scope.now e) ≡ meant t e) }
-        ensures sorts { IfOk result (λ t. class_of (signature scope.now) expr.now ≡ Some (class_of_sort (term_sort t))) }
-        ensures faults { IfErr result (λ f. IsLimit f ⊎ ((class_of (signature scope.now) expr.now ≡ Some Class.Formula × f ≡ Fault.Class wanted Class.Formula (span_of expr.now)) ⊎ ((v : Class) → Faulty (signature scope.now) v expr.now f))) }
+        ensures means { IfOk result (λ t. (e : Env) → value expr.now.kind (context scope.now e) ≡ meant t e) }
+        ensures sorts { IfOk result (λ t. class_of (signature scope.now) expr.now.kind ≡ Some (class_of_sort (term_sort t))) }
+        ensures faults { IfErr result (λ f. IsLimit f ⊎ ((class_of (signature scope.now) expr.now.kind ≡ Some Class.Formula × f ≡ Fault.Class wanted Class.Formula (expr.now.span)) ⊎ ((v : Class) → Faulty (signature scope.now) v expr.now f))) }
     {
-        let calls = inner(calls, expr.span())?;
-        self.spend(expr.span())?;
-        match expr {
-            Expr::Named(name) => self.name(name, scope),
-            Expr::Number(n, span) => Ok(Term::Place(self.further(Place::First, *n, *span)?)),
-            Expr::Empty(_) => Ok(Term::Set(Group::Empty)),
-            Expr::Listed(all, _) => Ok(Term::Set(self.listed(all, scope, calls)?)),
-            Expr::Unary(sign, a, _) => match sign {
+        let calls = inner(calls, expr.span)?;
+        self.spend(expr.span)?;
+        match &expr.kind {
+            ExprKind::Named(name) => self.name(name, scope),
+            ExprKind::Number(n) => Ok(Term::Place(self.further(Place::First, *n, expr.span)?)),
+            ExprKind::Empty => Ok(Term::Set(Group::Empty)),
+            ExprKind::Listed(all) => Ok(Term::Set(self.listed(all, scope, calls)?)),
+            ExprKind::Unary(sign, a) => match sign {
                 Unary::Min => {
                     let a = self.group(a, scope, calls)?;
                     Ok(Term::Place(least(self.heap, a)?))
@@ -204,16 +203,16 @@ impl Resolver {
                     let a = self.group(a, scope, calls)?;
                     Ok(Term::Place(most(self.heap, a)?))
                 }
-                _ => Err(Fault::Class(wanted, Class::Formula, expr.span())),
+                _ => Err(Fault::Class(wanted, Class::Formula, expr.span)),
             },
-            Expr::Binary(sign, a, b, span) => match sign {
+            ExprKind::Binary(sign, a, b) => match sign {
                 Binary::Plus => {
                     let a = self.place(a, scope, calls)?;
-                    Ok(Term::Place(self.further(a, number(b)?, *span)?))
+                    Ok(Term::Place(self.further(a, number(b)?, expr.span)?))
                 }
                 Binary::Minus => {
                     let a = self.place(a, scope, calls)?;
-                    Ok(Term::Place(self.back(a, number(b)?, *span)?))
+                    Ok(Term::Place(self.back(a, number(b)?, expr.span)?))
                 }
                 Binary::Union => {
                     let a = self.group(a, scope, calls)?;
@@ -230,10 +229,10 @@ impl Resolver {
                     let b = self.group(b, scope, calls)?;
                     Ok(Term::Set(minus(self.heap, a, b)?))
                 }
-                _ => Err(Fault::Class(wanted, Class::Formula, expr.span())),
+                _ => Err(Fault::Class(wanted, Class::Formula, expr.span)),
             },
-            Expr::True(_) | Expr::False(_) | Expr::Bound(_, _, _, _, _) | Expr::Call(_, _, _) => {
-                Err(Fault::Class(wanted, Class::Formula, expr.span()))
+            ExprKind::True | ExprKind::False | ExprKind::Bound(..) | ExprKind::Call(..) => {
+                Err(Fault::Class(wanted, Class::Formula, expr.span))
             }
         }
     }
@@ -244,13 +243,13 @@ impl Resolver {
     /// A limit, or a fault that the expression has where a place is wanted.
     #[cycle(terms)]
     pub fn place(&mut self, expr: &Expr, scope: &Scope<'_>, calls: u32) -> Result<Place, Fault>
-        ensures means { IfOk result (λ t. (e : Env) → value expr.now (context scope.now e) ≡ place (Meaning.value t e)) }
+        ensures means { IfOk result (λ t. (e : Env) → value expr.now.kind (context scope.now e) ≡ place (Meaning.value t e)) }
         ensures faults { IfErr result (λ f. IsLimit f ⊎ Faulty (signature scope.now) Class.Place expr.now f) }
     {
-        let calls = inner(calls, expr.span())?;
+        let calls = inner(calls, expr.span)?;
         match self.term(Class::Place, expr, scope, calls)? {
             Term::Place(place) => Ok(place),
-            Term::Set(_) => Err(Fault::Class(Class::Place, Class::Set, expr.span())),
+            Term::Set(_) => Err(Fault::Class(Class::Place, Class::Set, expr.span)),
         }
     }
 
@@ -260,26 +259,26 @@ impl Resolver {
     /// A limit, or a fault that the expression has where a set is wanted.
     #[cycle(terms)]
     pub fn group(&mut self, expr: &Expr, scope: &Scope<'_>, calls: u32) -> Result<Group, Fault>
-        ensures means { IfOk result (λ t. (e : Env) → value expr.now (context scope.now e) ≡ set (members t e)) }
+        ensures means { IfOk result (λ t. (e : Env) → value expr.now.kind (context scope.now e) ≡ set (members t e)) }
         ensures faults { IfErr result (λ f. IsLimit f ⊎ Faulty (signature scope.now) Class.Set expr.now f) }
     {
-        let calls = inner(calls, expr.span())?;
+        let calls = inner(calls, expr.span)?;
         match self.term(Class::Set, expr, scope, calls)? {
             Term::Set(group) => Ok(group),
-            Term::Place(_) => Err(Fault::Class(Class::Set, Class::Place, expr.span())),
+            Term::Place(_) => Err(Fault::Class(Class::Set, Class::Place, expr.span)),
         }
     }
 
     // The set of the places of a list.
     #[cycle(terms)]
     fn listed(&mut self, all: &[Expr], scope: &Scope<'_>, calls: u32) -> Result<Group, Fault>
-        ensures means { IfOk result (λ t. (e : Env) → each_place (map (λ a. value a (context scope.now e)) all.now) ≡ members t e) }
+        ensures means { IfOk result (λ t. (e : Env) → each_place (map (λ a. value a.kind (context scope.now e)) all.now) ≡ members t e) }
         ensures faults { IfErr result (λ f. IsLimit f ⊎ ((a : Expr) × (Among (Class.Place, a) (each_of Class.Place all.now) × Faulty (signature scope.now) Class.Place a f))) }
     {
         let [first, others @ ..] = all else {
             return Ok(Group::Empty);
         };
-        let calls = inner(calls, first.span())?;
+        let calls = inner(calls, first.span)?;
         let place = self.place(first, scope, calls)?;
         let single = only(self.heap, place)?;
         if others.is_empty() {

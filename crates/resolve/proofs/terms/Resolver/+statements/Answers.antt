@@ -6,7 +6,7 @@ use Rattle.resolve.proofs.Iff.{iff_trans, iff_sym, if_ok}
 use Rattle.resolve.proofs.ScopesLaws.{settled, steady_more, along, quantified_says}
 use Rattle.resolve.proofs.ValuesLaws.{head_rest}
 use Rattle.resolve.proofs.RowsLaws.{call_says}
-use Rattle.trees.specs.declared.tree.Expr.{Expr}
+use Rattle.trees.specs.Tree.{Expr}
 use Rattle.resolve.specs.declared.fault.Class.TheVariants.{Formula}
 use Rattle.resolve.proofs.FaultsLaws.{one_passed, two_tail, two_passed, bound_more, bound_tail, call_argument, call_more, call_unknown, call_count, call_tail, none_known}
 use Rattle.resolve.proofs.terms.Resolver.+statements.Goals as goal
@@ -23,7 +23,7 @@ bound-returns-clause-says t c = λ e.
     let xs = c.args.names.now in
     let x = c.first-item.result in
     let rest = take (length xs - 1) (drop 1 xs) in
-    let F : Context → Type 0 = λ z. holds c.args.body.now z in
+    let F : Context → Type 0 = λ z. holds c.args.body.now.kind z in
     let parts = head_rest xs x (omega (arith, c.in-len1-up.len_at_least)) c.first-item.is in
     let inner = λ (f : Env). subst (λ v. Meaning c.in_ok-formula.formula f ↔ quantified c.args.quantifier c.args.sort rest F (bind x v (context s f))) (c.numbered-term.ensures.means f) (c.in_ok-formula.ensures.says f) in
     let says = quantified_says c.args.quantifier c.args.sort c.args.level s x rest F (λ f. Meaning c.in_ok-formula.formula f) c.requires inner e in
@@ -31,7 +31,7 @@ bound-returns-clause-says t c = λ e.
 
 pub expanded-expanded-requires : goal.expanded-expanded-requires
 expanded-expanded-requires t c =
-    (search rules, ((settled c.args.level c.args.around.now c.argument-item.result c.in_ok-term.term c.requires.outside c.in_ok-term.ensures.says, c.requires.inside), c.requires.outside))
+    (search rules, ((settled c.args.level c.args.around.now c.argument-item.result.kind c.in_ok-term.term c.requires.outside c.in_ok-term.ensures.says, c.requires.inside), c.requires.outside))
 
 pub expanded-returns-clause-says : goal.expanded-returns-clause-says
 expanded-returns-clause-says t c =
@@ -45,9 +45,9 @@ expanded-returns-clause-says t c =
     let second = head_rest xs a (omega (arith, c.in-len1-up-arguments.len_at_least)) c.argument-item.is in
     if_ok c.expanded.result _ _ (λ f h e.
     let s = context c.args.scope.now e in
-    let g : Expr → Value = λ x. value x (context c.args.around.now e) in
+    let g : Expr → Value = λ x. value x.kind (context c.args.around.now e) in
     let same = ap (λ l. bind_all l (map g xs) s) first ∙ ap (λ l. bind_all (p ∷ qs) (map g l) s) second ∙ ap (λ v. bind_all qs (map g ys) (bind p.name v s)) (c.in_ok-term.ensures.says e) in
-    iff_trans (h e) (along (λ z. holds c.args.body.now z) _ _ (sym same))) c.expanded.ensures.says
+    iff_trans (h e) (along (λ z. holds c.args.body.now.kind z) _ _ (sym same))) c.expanded.ensures.says
 
 pub formula-expanded-requires : goal.formula-expanded-requires
 formula-expanded-requires t c = (search rules, (c.in-Some.ensures.steady c.args.level c.requires, c.requires))
@@ -67,12 +67,12 @@ formula-returns-else-wanted-len-clause-says t c =
     if_ok c.expanded.result _ _ (λ f h e.
     let s = context c.args.scope.now e in
     let around = context known.scope.now e in
-    let g : Expr → Value = λ x. value x s in
+    let g : Expr → Value = λ x. value x.kind s in
     let same = ap (λ l. bind_all l (map g c.deref-in-Call-2.result.now) around) c.deref-in-Call.ensures.value
     ∙ ap (λ l. bind_all known.predicate.now.parameters.items (map g l) around) c.deref-in-Call-2.ensures.value in
-    let said = iff_trans (call_says at.name at.arguments at.span s) (c.in-Some.ensures.says e (map g at.arguments.items)) in
+    let said = iff_trans (call_says at.name at.arguments s) (c.in-Some.ensures.says e (map g at.arguments.items)) in
     subst (λ x. Meaning f e ↔ holds x s) (sym at.is)
-    (iff_trans (h e) (iff_trans (along (λ z. holds known.predicate.now.body z) _ _ same) (iff_sym said)))) c.expanded.ensures.says
+    (iff_trans (h e) (iff_trans (along (λ z. holds known.predicate.now.body.kind z) _ _ same) (iff_sym said)))) c.expanded.ensures.says
 
 pub formula-returns-in_err-a-in-Not-clause-faults : goal.formula-returns-in_err-a-in-Not-clause-faults
 formula-returns-in_err-a-in-Not-clause-faults t c =
@@ -118,14 +118,14 @@ formula-returns-in_err-second-in-Iff-clause-faults t c =
     two_passed c.from_residual-in_err-second-in-Iff.result (signature c.args.scope.now) c.args.expr.now Formula Formula c.deref-in-Iff-3.result.now c.deref-in-Iff-4.result.now _ c.from_residual-in_err-second-in-Iff.ensures.1 c.in_err-second-in-Iff.ensures.faults (rw (c.in-Binary.is, c.in-Iff.is, d1) (inr (inl refl))) (rw (c.in-Binary.is, c.in-Iff.is, d2) (inl refl))
 
 pub formula-returns-in-Bound-clause-faults : goal.formula-returns-in-Bound-clause-faults
-formula-returns-in-Bound-clause-faults t c = let at = c.in-Bound in bound_tail c.bound.result (signature c.args.scope.now) c.args.expr.now at.quantifier at.sort at.names at.body at.field-4 c.deref-in-Bound.result.now c.deref-in-Bound-2.result.now at.is c.deref-in-Bound.ensures.value c.deref-in-Bound-2.ensures c.bound.ensures.faults
+formula-returns-in-Bound-clause-faults t c = let at = c.in-Bound in bound_tail c.bound.result (signature c.args.scope.now) c.args.expr.now at.quantifier at.sort at.names at.body c.deref-in-Bound.result.now c.deref-in-Bound-2.result.now at.is c.deref-in-Bound.ensures.value c.deref-in-Bound-2.ensures c.bound.ensures.faults
 
 pub formula-returns-else-wanted-len-clause-faults : goal.formula-returns-else-wanted-len-clause-faults
 formula-returns-else-wanted-len-clause-faults t c =
     let at = c.in-Call in
     let known = c.in-Some.known in
     let same : length c.deref-in-Call.result.now ≡ length c.deref-in-Call-2.result.now = search rules in
-    call_tail (signature c.args.scope.now) c.args.expr.now at.name at.arguments at.span c.expanded.result known.predicate.now (signature known.scope.now) c.deref-in-Call.result.now c.deref-in-Call-2.result.now known.predicate.now.body at.is c.in-Some.ensures.known c.deref-in-Call.ensures.value c.deref-in-Call-2.ensures.value refl same c.expanded.ensures.faults
+    call_tail (signature c.args.scope.now) c.args.expr.now at.name at.arguments c.expanded.result known.predicate.now (signature known.scope.now) c.deref-in-Call.result.now c.deref-in-Call-2.result.now known.predicate.now.body at.is c.in-Some.ensures.known c.deref-in-Call.ensures.value c.deref-in-Call-2.ensures.value refl same c.expanded.ensures.faults
 
 pub formula-returns-then-wanted-len-clause-faults : goal.formula-returns-then-wanted-len-clause-faults
 formula-returns-then-wanted-len-clause-faults t c =
@@ -134,12 +134,12 @@ formula-returns-then-wanted-len-clause-faults t c =
     let wanted : c.len-wanted.result ≡ length known.predicate.now.parameters.items = search rules in
     let compared : c.len.result ≡ length at.arguments.items = search rules in
     let given : c.len-then-wanted-len.result ≡ length at.arguments.items = search rules in
-    inr (call_count (signature c.args.scope.now) c.args.expr.now at.name at.arguments at.span known.predicate.now (signature known.scope.now) c.len-wanted.result c.len-then-wanted-len.result at.is c.in-Some.ensures.known wanted given (λ q. c.if-wanted-len.true (q ∙ given ∙ sym compared)))
+    inr (call_count (signature c.args.scope.now) c.args.expr.now at.name at.arguments known.predicate.now (signature known.scope.now) c.len-wanted.result c.len-then-wanted-len.result at.is c.in-Some.ensures.known wanted given (λ q. c.if-wanted-len.true (q ∙ given ∙ sym compared)))
 
 pub formula-returns-in_default-defined-clause-faults : goal.formula-returns-in_default-defined-clause-faults
 formula-returns-in_default-defined-clause-faults t c =
     let at = c.in-Call in
-    inr (call_unknown (signature c.args.scope.now) c.args.expr.now at.name at.arguments at.span at.is (none_known c.defined.result _ (λ k. (k.predicate.now, signature k.scope.now)) c.in_default-defined.not-Some c.defined.ensures.known))
+    inr (call_unknown (signature c.args.scope.now) c.args.expr.now at.name at.arguments at.is (none_known c.defined.result _ (λ k. (k.predicate.now, signature k.scope.now)) c.in_default-defined.not-Some c.defined.ensures.known))
 
 pub bound-returns-in_err-formula-clause-faults : goal.bound-returns-in_err-formula-clause-faults
 bound-returns-in_err-formula-clause-faults t c =

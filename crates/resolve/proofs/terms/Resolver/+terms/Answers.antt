@@ -4,9 +4,9 @@ use Rattle.resolve.specs.Says.{value, set, each_place, place_of}
 use Rattle.resolve.specs.Scopes.{context, term_sort, signature}
 use Rattle.resolve.proofs.ValuesLaws.{head_rest, mix_none, none_left}
 use Rattle.resolve.proofs.RowsLaws.{listed_says}
-use Rattle.resolve.specs.Faults.{class_of, class_of_sort}
+use Rattle.resolve.specs.Faults.{class_of, class_of_sort, other_class}
 use Rattle.resolve.specs.declared.fault.Class.TheVariants.{Formula, Place, Set}
-use Rattle.resolve.proofs.FaultsLaws.{term_deeper, term_number, term_listed, term_named, no_term_passed, formula_not_place, formula_not_set, misfit, unfit, place_not_set, set_not_place, unary_class, binary_class}
+use Rattle.resolve.proofs.FaultsLaws.{term_deeper, term_number, term_listed, listed_first, listed_rest, term_named, no_term_passed, formula_not_place, formula_not_set, place_not_set, set_not_place, unary_class, binary_class}
 use Rattle.resolve.proofs.terms.Resolver.+terms.Goals as goal
 
 pub listed-returns-then-is_empty-clause-means : goal.listed-returns-then-is_empty-clause-means
@@ -15,25 +15,35 @@ listed-returns-then-is_empty-clause-means t c = λ e.
     let all = c.args.all.now in
     let parts = head_rest all c.first-item.result (omega (arith, c.in-len1-up.len_at_least)) c.first-item.is in
     let none = none_left (take (length all - 1) (drop 1 all)) (search (rules, c.is_empty.ensures, c.if-is_empty.true)) in
-    ap (λ l. each_place (map (λ a. value a s) l)) (parts ∙ ap (λ l. c.first-item.result ∷ l) none)
-    ∙ mix_none (one (place_of (value c.first-item.result s)))
+    ap (λ l. each_place (map (λ a. value a.kind s) l)) (parts ∙ ap (λ l. c.first-item.result ∷ l) none)
+    ∙ mix_none (one (place_of (value c.first-item.result.kind s)))
     ∙ ap (λ v. one (place_of v)) (c.in_ok-place.ensures.means e)
     ∙ sym (c.in_ok-single.ensures e)
 
 pub term-returns-in_ok-listed-in-Listed-clause-means : goal.term-returns-in_ok-listed-in-Listed-clause-means
 term-returns-in_ok-listed-in-Listed-clause-means t c = λ e.
     let s = context c.args.scope.now e in
-    ap (λ x. value x s) c.in-Listed.is ∙ listed_says c.in-Listed.all c.in-Listed.field-1 s
-    ∙ ap (λ l. set (each_place (map (λ a. value a s) l))) (sym c.deref.ensures.value) ∙ ap set (c.in_ok-listed-in-Listed.ensures.means e)
+    ap (λ x. value x s) c.in-Listed.is ∙ listed_says c.in-Listed.all s
+    ∙ ap (λ l. set (each_place (map (λ a. value a.kind s) l))) (sym c.deref.ensures.value) ∙ ap set (c.in_ok-listed-in-Listed.ensures.means e)
+
+pub listed-returns-in_err-place-clause-faults : goal.listed-returns-in_err-place-clause-faults
+listed-returns-in_err-place-clause-faults t c =
+    let parts = head_rest c.args.all.now c.first-item.result (omega (arith, c.in-len1-up.len_at_least)) c.first-item.is in
+    listed_first c.from_residual-in_err-place.result (signature c.args.scope.now) c.args.all.now _ c.first-item.result _ c.from_residual-in_err-place.ensures.1 parts c.in_err-place.ensures.faults
+
+pub listed-returns-in_err-set-clause-faults : goal.listed-returns-in_err-set-clause-faults
+listed-returns-in_err-set-clause-faults t c =
+    let parts = head_rest c.args.all.now c.first-item.result (omega (arith, c.in-len1-up.len_at_least)) c.first-item.is in
+    listed_rest c.from_residual-in_err-set.result (signature c.args.scope.now) c.args.all.now _ c.first-item.result _ c.from_residual-in_err-set.ensures.1 parts c.in_err-set.ensures.faults
 
 pub group-returns-clause-faults : goal.group-returns-clause-faults
-group-returns-clause-faults t c = inr (unfit c.span-in-Place.result (c.in_ok-group.ensures.sorts ∙ ap (λ x. Some (class_of_sort (term_sort x))) c.in-Place.is) place_not_set c.span-in-Place.ensures)
+group-returns-clause-faults t c = inr (other_class (c.in_ok-group.ensures.sorts ∙ ap (λ x. Some (class_of_sort (term_sort x))) c.in-Place.is) place_not_set)
 
 pub place-returns-clause-faults : goal.place-returns-clause-faults
-place-returns-clause-faults t c = inr (unfit c.span-in-Set.result (c.in_ok-place.ensures.sorts ∙ ap (λ x. Some (class_of_sort (term_sort x))) c.in-Set.is) set_not_place c.span-in-Set.ensures)
+place-returns-clause-faults t c = inr (other_class (c.in_ok-place.ensures.sorts ∙ ap (λ x. Some (class_of_sort (term_sort x))) c.in-Set.is) set_not_place)
 
 pub term-returns-in_err-listed-in-Listed-clause-faults : goal.term-returns-in_err-listed-in-Listed-clause-faults
-term-returns-in_err-listed-in-Listed-clause-faults t c = term_listed c.from_residual-in_err-listed-in-Listed.result (signature c.args.scope.now) c.args.wanted c.args.expr.now c.in-Listed.all c.in-Listed.field-1 c.deref.result.now _ c.from_residual-in_err-listed-in-Listed.ensures.1 c.in-Listed.is c.deref.ensures.value c.in_err-listed-in-Listed.ensures.faults
+term-returns-in_err-listed-in-Listed-clause-faults t c = term_listed c.from_residual-in_err-listed-in-Listed.result (signature c.args.scope.now) c.args.wanted c.args.expr.now c.in-Listed.all c.deref.result.now _ c.from_residual-in_err-listed-in-Listed.ensures.1 c.in-Listed.is c.deref.ensures.value c.in_err-listed-in-Listed.ensures.faults
 
 pub term-returns-in_err-a-in-Min-clause-faults : goal.term-returns-in_err-a-in-Min-clause-faults
 term-returns-in_err-a-in-Min-clause-faults t c =
@@ -99,22 +109,22 @@ pub term-returns-in-Named-clause-faults : goal.term-returns-in-Named-clause-faul
 term-returns-in-Named-clause-faults t c = term_named c.name.result (signature c.args.scope.now) c.args.wanted c.args.expr.now c.in-Named.name c.in-Named.is c.name.ensures.faults
 
 pub term-returns-in_default-clause-faults : goal.term-returns-in_default-clause-faults
-term-returns-in_default-clause-faults t c = misfit c.span-in_default.result (unary_class (signature c.args.scope.now) c.args.expr.now c.in-Unary.sign c.in-Unary.a c.in-Unary.field-2 c.in-Unary.is c.in_default.not-Min c.in_default.not-Max) c.span-in_default.ensures
+term-returns-in_default-clause-faults t c = inr (inl (rw c.in-Unary.is (unary_class (signature c.args.scope.now) c.in-Unary.sign c.in-Unary.a c.in_default.not-Min c.in_default.not-Max), refl))
 
 pub term-returns-in_default-sign-clause-faults : goal.term-returns-in_default-sign-clause-faults
-term-returns-in_default-sign-clause-faults t c = let f = c.in_default-sign in misfit c.span-in_default-sign.result (binary_class (signature c.args.scope.now) c.args.expr.now c.in-Binary.sign c.in-Binary.a c.in-Binary.b c.in-Binary.span c.in-Binary.is f.not-Union f.not-Inter f.not-Without f.not-Plus f.not-Minus) c.span-in_default-sign.ensures
+term-returns-in_default-sign-clause-faults t c = let f = c.in_default-sign in inr (inl (rw c.in-Binary.is (binary_class (signature c.args.scope.now) c.in-Binary.sign c.in-Binary.a c.in-Binary.b f.not-Union f.not-Inter f.not-Without f.not-Plus f.not-Minus), refl))
 
 pub term-returns-in-True-clause-faults : goal.term-returns-in-True-clause-faults
 term-returns-in-True-clause-faults t c =
     let k = signature c.args.scope.now in
-    let formula : class_of k c.args.expr.now ≡ Some Formula = elim c.in-True.is [
-      | inl x ↦ ap (λ y. class_of k y) x.1
+    let formula : class_of k c.args.expr.now.kind ≡ Some Formula = elim c.in-True.is [
+      | inl x ↦ ap (λ y. class_of k y) x
       | inr x ↦ elim x [
-        | inl y ↦ ap (λ z. class_of k z) y.1
-        | inr y ↦ elim y [ inl z ↦ ap (λ v. class_of k v) z.5 | inr z ↦ ap (λ v. class_of k v) z.3 ]
+        | inl y ↦ ap (λ z. class_of k z) y
+        | inr y ↦ elim y [ inl z ↦ ap (λ v. class_of k v) z.4 | inr z ↦ ap (λ v. class_of k v) z.2 ]
       ]
     ] in
-    misfit c.span-in-True.result formula c.span-in-True.ensures
+    inr (inl (formula, refl))
 
 pub group-returns-in_err-group-clause-faults : goal.group-returns-in_err-group-clause-faults
 group-returns-in_err-group-clause-faults t c = no_term_passed c.from_residual-in_err-group.result (signature c.args.scope.now) Set c.args.expr.now _ formula_not_set c.from_residual-in_err-group.ensures.1 c.in_err-group.ensures.faults
