@@ -1,12 +1,12 @@
 -- What each cell of the pass keeps, and what is known at its end.
-use Rattle.std.proofs.Common.{◌≡◌, ℕ, zero, suc, ◌+◌, ◌^◌, ◌<◌, ◌≤◌, ◌⊎◌, List, [], ◌∷◌, ◌++◌, length, get_or, set, sym, ap, ◌∙◌, subst, inl, inr, arith}
+use Rattle.std.proofs.Common.{◌≡◌, ℕ, zero, suc, ◌+◌, ◌^◌, ◌<◌, ◌≤◌, List, [], ◌∷◌, ◌++◌, length, get_or, set, sym, ap, ◌∙◌, subst, inl, inr, arith}
 use native.Mathlib.Decide.{ℕ_discrete, dec_lt}
 use Rattle.std.proofs.lemmas.List.{get_or-set_same, get_or-set_other}
 use Rattle.words.specs.Words.{Word}
-use Rattle.automata.specs.Search.{Before, Ranked}
+use Rattle.automata.specs.Search.{Before, Ordered, Ranked}
 use Rattle.automata.specs.Tables.{Connected}
 use Rattle.automata.proofs.FirstWords.{all_rows, next_cell}
-use Rattle.shortest.specs.Spell.{Spelled, word}
+use Rattle.shortest.specs.Spell.{word}
 use Rattle.shortest.proofs.SpellLaws.{word_start, word_step}
 
 -- words ws end with the steps of m classes, and the cells before row i, column a, lead to these classes
@@ -34,13 +34,13 @@ module _ {k n : ℕ} {δ : ℕ → ℕ → ℕ} {m : ℕ} {prev via : List ℕ} 
       earlier : (p b : ℕ) → Before p b (i + 1) 0 → b < 2 ^ k → Before p b i (2 ^ k)
       earlier p b o hb = elim (ℕ_discrete p i) [ yes e ↦ inr (e, hb) | no d ↦ inl (elim o [ inl l ↦ omega arith | inr l ↦ (let z : ⊥ = omega (arith, l.1) in absurd z) ]) ]
 
-  module _ {a : ℕ} (closed : (q a : ℕ) → q < n → a < 2 ^ k → δ q a < n) (x : Noting k n δ m prev via i a) (hi : i < m) (ha : a < 2 ^ k) where
-    connected : (ws : ℕ → Word) → Ranked k n δ ws → Connected k n δ
-    connected ws r = (let s = x.some in let f = x.few in record { start = omega arith; closed = closed; reached = λ q h. (ws q, r.columns q h, r.arrives q h) })
+  connected : {a : ℕ} → ((q a : ℕ) → q < n → a < 2 ^ k → δ q a < n) → Noting k n δ m prev via i a → (ws : ℕ → Word) → Ranked k n δ ws → Connected k n δ
+  connected closed x ws r = (let s = x.some in let f = x.few in record { start = omega arith; closed = closed; reached = λ q h. (ws q, r.columns q h, r.arrives q h) })
 
+  module _ {a : ℕ} (closed : (q a : ℕ) → q < n → a < 2 ^ k → δ q a < n) (x : Noting k n δ m prev via i a) (hi : i < m) (ha : a < 2 ^ k) where
     -- a cell that leads past the classes noted leads to the next, whose first word ends there
     next : (ws : ℕ → Word) → Ranked k n δ ws → m ≤ δ i a → (δ i a ≡ m) × (ws m ≡ ws i ++ (a ∷ []))
-    next ws r h = next_cell k n δ ws (connected ws r) r m i a x.some (let f = x.few in omega arith) ha (x.ended ws r).seen h
+    next ws r h = next_cell k n δ ws (connected closed x ws r) r m i a x.some (let f = x.few in omega arith) ha (x.ended ws r).seen h
 
     seen_more : (l p b : ℕ) → m ≤ l → δ i a < l → ((p b : ℕ) → Before p b i a → p < n → b < 2 ^ k → δ p b < m) → Before p b i (a + 1) → p < n → b < 2 ^ k → δ p b < l
     seen_more l p b h g seen o hp hb = elim o [
@@ -91,19 +91,10 @@ module _ {k n : ℕ} {δ : ℕ → ℕ → ℕ} {m : ℕ} {prev via : List ℕ} 
         via_old : (j : ℕ) → (j ≡ m → ⊥) → get_or (set via m a) j 0 ≡ get_or via j 0
         via_old j d = get_or-set_other via m j a 0 d
 
-  -- all rows of the classes noted are read, or class `last` is noted: the words read off are the first words
-  pub noting_end : (closed : (q a : ℕ) → q < n → a < 2 ^ k → δ q a < n) (x : Noting k n δ m prev via i 0) (last : ℕ) → (m ≤ i) ⊎ (last < m) → (ws : ℕ → Word) → Ranked k n δ ws → last < n → Spelled ws last m prev via
-  noting_end closed x last end ws r h = record { noted = noted; words = λ j g. words j j (omega arith) g }
+  -- the words read off are the first words
+  pub noting_words : Noting k n δ m prev via i 0 → (ws : ℕ → Word) → Ranked k n δ ws → (j : ℕ) → j < m → word prev via j ≡ ws j
+  noting_words x ws r j h = words j j (omega arith) h
     where
-      e : Ended k n δ ws m prev via i 0
-      e = x.ended ws r
-
-      noted : last < m
-      noted = elim end [
-        | inl l ↦ (let all = all_rows k n δ ws (record { start = omega arith; closed = closed; reached = λ q h. (ws q, r.columns q h, r.arrives q h) }) r m x.some (λ p b hp hq hb. e.seen p b (inl (omega arith)) hq hb) in omega arith)
-        | inr l ↦ l
-      ]
-
       words : (t j : ℕ) → j ≤ t → j < m → word prev via j ≡ ws j
       words t zero g h = word_start prev via ∙ sym r.empty
       words zero (suc j) g h = let z : ⊥ = omega arith in absurd z
@@ -111,4 +102,8 @@ module _ {k n : ℕ} {δ : ℕ → ℕ → ℕ} {m : ℕ} {prev via : List ℕ} 
           let p = x.falls (suc j) (omega arith) h in
           word_step prev via (suc j) (omega arith) (λ q l o. x.falls q l (omega arith))
           ∙ ap (λ w. w ++ (get_or via (suc j) 0 ∷ [])) (words t (get_or prev (suc j) 0) (omega arith) (omega arith))
-          ∙ sym (e.last (suc j) (omega arith) h)
+          ∙ sym ((x.ended ws r).last (suc j) (omega arith) h)
+
+  -- where all rows of the classes noted are read, these are all classes
+  pub noting_all : ((q a : ℕ) → q < n → a < 2 ^ k → δ q a < n) → Noting k n δ m prev via i 0 → m ≤ i → Ordered k n δ → n ≤ m
+  noting_all closed x h o = all_rows k n δ o.0 (connected closed x o.0 o.1) o.1 m x.some (λ p b hp hq hb. (x.ended o.0 o.1).seen p b (inl (omega arith)) hq hb)

@@ -1,5 +1,5 @@
 -- The first word of a class, read off two lists: prev, the class to which it leads without its last column, and via, that column.
-use Rattle.std.specs.Prelude.{◌≡◌, ℕ, zero, suc, ◌<◌, ◌≤◌, List, [], ◌∷◌, ◌++◌, slice_index}
+use Rattle.std.specs.Prelude.{ℕ, zero, suc, ◌<◌, ◌≤◌, List, [], ◌∷◌, ◌++◌, slice_index}
 use Rattle.words.specs.Words.{Word}
 
 -- the last n columns of the word of class j, or all of them where it has no more
@@ -15,8 +15,3 @@ word prev via j = last_columns prev via j j
 -- for each class up to j a lower one is noted
 abbrev pub Falls : List ℕ → ℕ → Type 0
 Falls prev j = (i : ℕ) → 0 < i → i ≤ j → slice_index prev i < i
-
--- of the classes below n, class `last` among them, the words are ws
-pub record Spelled (ws : ℕ → Word) (last n : ℕ) (prev via : List ℕ) : Type 0 where
-  pub noted : last < n
-  pub words : (j : ℕ) → j < n → word prev via j ≡ ws j

@@ -2,11 +2,11 @@
 // Row by row, columns rising, a class is met first at the cell by which its first word ends, and the next class that is met is always the next number. So one pass finds, for each class, the
 // class before and the column; nothing is cleared before it.
 // Invariant, at column a of row i: the cells before lead to the classes noted, and prev and via have the last steps of the first words of these.
-ghost use Rattle.std.specs.Prelude.{ℕ, ◌^◌, ◌<◌, ◌≤◌, length, slice_index};
+ghost use Rattle.std.specs.Prelude.{◌≡◌, ℕ, ◌^◌, ◌<◌, ◌≤◌, length, slice_index};
 ghost use Rattle.words.specs.Words.{Word};
-ghost use Rattle.automata.specs.Search.{Ranked};
+ghost use Rattle.automata.specs.Search.{Ordered, Ranked};
 ghost use Rattle.tables.specs.View.{moves};
-ghost use Rattle.shortest.specs.Spell.{Spelled};
+ghost use Rattle.shortest.specs.Spell.{word};
 
 use tables::cells::{Class, WordTable};
 
@@ -19,7 +19,8 @@ pub fn steps(t: WordTable, last: usize, prev: &mut [u32], via: &mut [u32]) -> us
     requires via { t.table.classes ≤ length via.old }
     ensures within { result ≤ t.entry.table.classes }
     ensures falls { (j : ℕ) → 0 < j → j < result → slice_index prev.new j < j }
-    ensures spelled { (ws : ℕ → Word) → Ranked t.entry.sets t.entry.table.classes (moves t.entry.table) ws → last < t.entry.table.classes → Spelled ws last result prev.new via.new }
+    ensures noted { Ordered t.entry.sets t.entry.table.classes (moves t.entry.table) → last < t.entry.table.classes → last < result }
+    ensures words { (ws : ℕ → Word) → Ranked t.entry.sets t.entry.table.classes (moves t.entry.table) ws → (j : ℕ) → j < result → word prev.new via.new j ≡ ws j }
 {
     let mut count = 1;
     let mut i = 0;

@@ -1,8 +1,8 @@
-use Rattle.std.proofs.Common.{◌≡◌, ℕ, ◌^◌, ◌<◌, ◌∙◌, sym, refl, subst, inl, inr, arith}
+use Rattle.std.proofs.Common.{◌≡◌, ℕ, ◌^◌, ◌<◌, ◌∙◌, sym, refl, subst, arith}
 use Rattle.std.proofs.lemmas.List.{length-set}
 use Rattle.tables.specs.declared.cells.WordTable.{WordTable}
 use Rattle.tables.specs.View.{moves}
-use Rattle.shortest.proofs.StepsLaws.{Noting, noting_row, noting_old, noting_new, noting_end}
+use Rattle.shortest.proofs.StepsLaws.{Noting, noting_row, noting_old, noting_new, noting_words, noting_all}
 use Rattle.shortest.proofs.steps.steps.Goals as goal
 use Rattle.shortest.proofs.steps.steps.Goals.{then-to-count, else-to-count}
 
@@ -34,8 +34,11 @@ loop-i-preserved c =
     let all : s.a ≡ 2 ^ t.sets = omega (arith, t.wide) in
     (omega arith, fp, fv, noting_row (subst (Noting t.sets t.table.classes (moves t.table) s.count s.prev s.via c.loop-i.i) all x))
 
-pub returns-else-count-last-clause-spelled : goal.returns-else-count-last-clause-spelled
-returns-else-count-last-clause-spelled c = noting_end (closed c.args.t) c.loop-i.invariant.3 c.args.last (inr (omega arith))
+pub returns-else-count-last-clause-words : goal.returns-else-count-last-clause-words
+returns-else-count-last-clause-words c = noting_words c.loop-i.invariant.3
 
-pub returns-after-loop-i-clause-spelled : goal.returns-after-loop-i-clause-spelled
-returns-after-loop-i-clause-spelled c = noting_end (closed c.args.t) c.loop-i.invariant.3 c.args.last (inl (omega arith))
+pub returns-after-loop-i-clause-noted : goal.returns-after-loop-i-clause-noted
+returns-after-loop-i-clause-noted c o h = let all = noting_all (closed c.args.t) c.loop-i.invariant.3 (omega arith) o in omega arith
+
+pub returns-after-loop-i-clause-words : goal.returns-after-loop-i-clause-words
+returns-after-loop-i-clause-words c = noting_words c.loop-i.invariant.3
