@@ -1,5 +1,5 @@
 -- Rows and acceptance of a table, taken out of the memory that it lies in.
-use Rattle.std.proofs.Common.{◌≡◌, ℕ, ◌+◌, ◌-◌, ◌*◌, ◌^◌, ◌<◌, ◌≤◌, Bool, false, ◌==◌, List, [], length, get_or, take, drop, map, sym, refl, ap, ◌∙◌, subst, append-nil, arith, get_or-take}
+use Rattle.std.proofs.Common.{◌≡◌, ℕ, ◌+◌, ◌-◌, ◌*◌, ◌<◌, ◌≤◌, Bool, false, ◌==◌, List, [], length, get_or, take, drop, map, sym, refl, ap, ◌∙◌, subst, append-nil, arith, get_or-take}
 use Rattle.std.proofs.lemmas.List.{get_or-map, length-take-le}
 use Rattle.tables.specs.Cells.{entry, column, accepts}
 use Rattle.tables.proofs.CellsLaws.{copied_entry, row_entry}
