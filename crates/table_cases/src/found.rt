@@ -54,7 +54,7 @@ pub fn steps_case(
     let t = table(rows, accept, classes, 1);
     let (mut prev, mut via) = ([7u32; 64], [7u32; 64]);
     let noted = steps(t, classes - 1, &mut prev, &mut via);
-    let from = Listed(first_of(&prev[1..], noted - 1));
+    let from = Listed(first_of(&prev[1..], noted.saturating_sub(1)));
     println!(rt; "steps from:{from}")?;
     word_case(rt, t.table, &prev, &via, noted, true)?;
     word_case(rt, t.table, &prev, &via, noted, false)
