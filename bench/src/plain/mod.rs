@@ -1,5 +1,5 @@
 //! The operations of the call, written in plain Rust with the same algorithms: a table for each part, pairs for `and`, sets of
-//! classes for `some`, joining by splitting (by rounds where a table is small), first words by a search that ends once both are found.
+//! classes for `some`, joining by splitting (by rounds where a table is small), first words by a pass that ends once both are found.
 //! Nothing here is proved; it is there to see what the proved code costs against code that is written freely.
 
 mod atoms;

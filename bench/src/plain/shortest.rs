@@ -1,45 +1,33 @@
-//! The first word that is accepted and the first that is not: a search over the classes, columns rising, that ends once a class of either
-//! sort is found.
+//! The first word that is accepted and the first that is not. Tables are numbered in the order of their classes' first words, so the first
+//! classes of either sort have them, and their last columns are found in one pass over the cells.
 
 use super::Table;
 use ceivuron::Answer;
 
 pub(super) fn answer(t: &Table) -> Answer {
-    // the first class has the empty word
-    let sort = t.accept[0];
-    match first_other(t) {
-        Some(word) if sort => Answer::Both { holds: Vec::new(), fails: word },
-        Some(word) => Answer::Both { holds: word, fails: Vec::new() },
-        None if sort => Answer::Always,
-        None => Answer::Never,
-    }
+    let first = |sort: bool| t.accept.iter().position(|accepts| *accepts == sort);
+    let Some(good) = first(true) else { return Answer::Never };
+    let Some(bad) = first(false) else { return Answer::Always };
+    let from = steps(t, good.max(bad));
+    Answer::Both { holds: word(&from, good), fails: word(&from, bad) }
 }
 
-/// The first word of another sort than the empty one. Classes are found in the order of their first words.
-fn first_other(t: &Table) -> Option<Vec<u32>> {
-    let mut queue = vec![0u32];
-    let mut from = vec![(0u32, 0u32)];
-    let mut seen = vec![false; t.classes()];
-    seen[0] = true;
+/// From which class and by which column each class is met first, up to class `last`: the next that is met is always the next number.
+fn steps(t: &Table, last: usize) -> Vec<(u32, u32)> {
+    let mut from = vec![(0, 0)];
     let mut i = 0;
-    while i < queue.len() {
-        for (column, to) in t.row(queue[i]).iter().enumerate() {
-            if seen[*to as usize] {
-                continue;
-            }
-            seen[*to as usize] = true;
-            queue.push(*to);
-            from.push((i as u32, column as u32));
-            if t.accept[*to as usize] != t.accept[0] {
-                return Some(word(&from, queue.len() - 1));
+    while from.len() <= last {
+        for (column, to) in t.row(i).iter().enumerate() {
+            if *to as usize == from.len() {
+                from.push((i, column as u32));
             }
         }
         i += 1;
     }
-    None
+    from
 }
 
-/// The word by which a class was found, read off backwards.
+/// The word by which a class is met, read off backwards.
 fn word(from: &[(u32, u32)], mut i: usize) -> Vec<u32> {
     let mut word = Vec::new();
     while i != 0 {

@@ -19,7 +19,8 @@ use Rattle.automata.proofs.Beyond.{Beyond, some_beyond}
 use Rattle.automata.proofs.Decisions.{not_same, not_true}
 use Rattle.automata.proofs.Explored.{explored_exact, explored_table}
 use Rattle.automata.proofs.Exploring.{too_many}
-use Rattle.automata.proofs.Joined.{written_collapsed, written_table}
+use Rattle.automata.proofs.FirstWords.{ordered_same}
+use Rattle.automata.proofs.Joined.{written_collapsed, written_ordered, written_table}
 use Rattle.automata.proofs.Product.{product_exact, product_from, product_table, product_to}
 use Rattle.automata.proofs.Residuals.{atom_explored}
 use Rattle.automata.proofs.Subsets.{accepts_says, but_left, subset_apart, subset_ext, subset_same, subset_says}
@@ -43,7 +44,7 @@ module _ (k n : ℕ) (a : Atom) (m : ℕ) (at : ℕ → Residual) (δ : ℕ → 
     atom_exact = table_exact k (Of (atom a)) o δ' f' atom_written atom_collapsed
 
     pub worked_atom : o ≤ n → Worked k n (atom a) o δ' f'
-    worked_atom h = record { table = atom_written; collapsed = atom_collapsed; fits = (atom_top k n a).0 (exact_top k (SameLeft k (Of (atom a))) o n δ' atom_exact h) }
+    worked_atom h = record { table = atom_written; ordered = written_ordered k m δ (λ q. ends (at q)) g cls rep o δ' f' e.connected j same w e.ordered; collapsed = atom_collapsed; fits = (atom_top k n a).0 (exact_top k (SameLeft k (Of (atom a))) o n δ' atom_exact h) }
 
   pub many_atom : n < o → Fits k n (atom a) → ⊥
   many_atom h t =
@@ -60,24 +61,27 @@ not_table k L m δ f t = record {
 pub shown_not : (k n : ℕ) (c : C) (m : ℕ) (δ : ℕ → ℕ → ℕ) (f g : ℕ → Bool) → Shown k n c m δ f → ((q : ℕ) → q < m → g q ≡ not (f q)) → Shown k n (not1 c) m δ g
 shown_not k n c m δ f g t e = record {
   table = table_same k (Of (not1 c)) m δ δ (λ q. not (f q)) g (not_table k (Of c) m δ f t.table) (λ q a _ _. refl) e;
+  ordered = t.ordered;
   fits = t.fits;
 }
 
 pub worked_not : (k n : ℕ) (c : C) (m : ℕ) (δ : ℕ → ℕ → ℕ) (f g : ℕ → Bool) → Worked k n c m δ f → ((q : ℕ) → q < m → g q ≡ not (f q)) → Worked k n (not1 c) m δ g
 worked_not k n c m δ f g t e = record {
   table = table_same k (Of (not1 c)) m δ δ (λ q. not (f q)) g (not_table k (Of c) m δ f t.table) (λ q a _ _. refl) e;
+  ordered = t.ordered;
   fits = t.fits;
   collapsed = collapsed_same k m δ δ (λ q. not (f q)) g t.table.connected (λ p q hp hq a. t.collapsed p q hp hq (λ x hx. not_same (f (run δ p x)) (f (run δ q x)) (a x hx))) (λ q a _ _. refl) e;
 }
 
 -- A table is the same with other functions that agree with its own on its classes, as where it is copied.
 pub shown_same : (k n : ℕ) (c : C) (m : ℕ) (δ δ' : ℕ → ℕ → ℕ) (f f' : ℕ → Bool) → Shown k n c m δ f → ((q a : ℕ) → q < m → a < 2 ^ k → δ' q a ≡ δ q a) → ((q : ℕ) → q < m → f' q ≡ f q) → Shown k n c m δ' f'
-shown_same k n c m δ δ' f f' t leads ends = record { table = table_same k (Of c) m δ δ' f f' t.table leads ends; fits = t.fits }
+shown_same k n c m δ δ' f f' t leads ends = record { table = table_same k (Of c) m δ δ' f f' t.table leads ends; ordered = ordered_same k m δ δ' t.table.connected t.ordered leads; fits = t.fits }
 
 -- With its classes that are alike joined it is exact.
 pub joined_worked : (k n : ℕ) (c : C) (m : ℕ) (δ : ℕ → ℕ → ℕ) (f : ℕ → Bool) → Shown k n c m δ f → (cls rep : ℕ → ℕ) (r : ℕ) → Joined k m δ f cls rep r → (δ' : ℕ → ℕ → ℕ) (f' : ℕ → Bool) → Written k δ f cls rep r δ' f' → Worked k n c r δ' f'
 joined_worked k n c m δ f t cls rep r j δ' f' w = record {
   table = written_table k m δ f f cls rep r δ' f' t.table.connected j (λ q _. refl) w (Of c) t.table;
+  ordered = written_ordered k m δ f f cls rep r δ' f' t.table.connected j (λ q _. refl) w t.ordered;
   collapsed = written_collapsed k m δ f f cls rep r δ' f' t.table.connected j (λ q _. refl) w;
   fits = t.fits;
 }
@@ -93,6 +97,7 @@ module _ (k n : ℕ) (c e : C) (m m₁ : ℕ) (δ δ₁ : ℕ → ℕ → ℕ) (
   pub shown_and : (o : ℕ) (at : ℕ → Pair) (γ : ℕ → ℕ → ℕ) (g : ℕ → Bool) → Explored k (step_pair δ δ₁) (pair 0 0) o at γ → o ≤ n → ((i : ℕ) → i < o → g i ≡ (f (left (at i)) && f₁ (right (at i)))) → Shown k n (and1 c e) o γ g
   shown_and o at γ g x h same = record {
     table = table_same k (Of (and1 c e)) o γ γ (λ i. f (left (at i)) && f₁ (right (at i))) g (product_table k (Of c) (Of e) m m₁ δ δ₁ f f₁ t.table t₁.table o at γ x) (λ q a _ _. refl) same;
+    ordered = x.ordered;
     fits = (t.fits, t₁.fits, exact_top k (Apart k (and1 c e)) o n γ (product_exact k (Of c) (Of e) m m₁ δ δ₁ exact_c exact_e o at γ x) h);
   }
 
@@ -125,5 +130,6 @@ module _ (k n x : ℕ) (c : C) (m : ℕ) (δ : ℕ → ℕ → ℕ) (f : ℕ →
       (λ p. z.1 (l.0 (y.0 p)), λ p. y.1 (l.1 (z.0 p))))) in
       record {
         table = table_same k (Of (some x c)) o γ γ (λ i. acc (at i)) g tb (λ q a _ _. refl) same;
+        ordered = e.ordered;
         fits = (t.fits, exact_top k (Apart k (some x c)) o n γ (explored_exact k (step_set m δ live x) (start_set live) o at γ e (Apart k (some x c)) some_to some_from) few);
       }

@@ -4,6 +4,7 @@ use Rattle.claims.specs.Claims.{C, Of, and1, before, next, not1, single, some, w
 use Rattle.claims.specs.Fronts.{Front}
 use Rattle.claims.specs.Sizes.{Fits, Top}
 use Rattle.claims.proofs.FrontLaws.{same_front}
+use Rattle.automata.specs.Search.{Ordered}
 use Rattle.automata.specs.Tables.{Table}
 use Rattle.automata.specs.Worked.{Worked}
 use Rattle.automata.proofs.Counting.{nth_below}
@@ -21,6 +22,10 @@ pub stands_table : (wanted : Wanted) (s : Sheet) (c : C) (m : ℕ) → Stands wa
 stands_table Exact s c m t = t.meets.table
 stands_table Any s c m t = t.meets.table
 
+pub stands_ordered : (wanted : Wanted) (s : Sheet) (c : C) (m : ℕ) → Stands wanted s c m → Ordered s.shape.sets m (entry s.rows.now s.shape.width)
+stands_ordered Exact s c m t = t.meets.ordered
+stands_ordered Any s c m t = t.meets.ordered
+
 pub stands_below : (wanted : Wanted) (s : Sheet) (c : C) (m : ℕ) → Stands wanted s c m → (q a : ℕ) → q < m → a < s.shape.width → entry s.rows.now s.shape.width q a < m
 stands_below wanted s c m t q a h g = (stands_table wanted s c m t).connected.closed q a h (subst (λ z. a < z) s.shape.wide g)
 
@@ -37,7 +42,7 @@ stands_exact s c m t r h = rw (h.sets, h.classes, h.width, h.rows, h.accept) t.m
 -- an exact table is what is wanted, whatever that is
 pub exact_meets : (wanted : Wanted) (k n : ℕ) (c : C) (m : ℕ) (δ : ℕ → ℕ → ℕ) (f : ℕ → Bool) → Worked k n c m δ f → Meets wanted k n c m δ f
 exact_meets Exact k n c m δ f t = t
-exact_meets Any k n c m δ f t = record { table = t.table; fits = t.fits }
+exact_meets Any k n c m δ f t = record { table = t.table; ordered = t.ordered; fits = t.fits }
 
 -- Bytes are one claim only, so a result for that claim is one for the bytes.
 pub out_of : (wanted : Wanted) (d : C) (b : List ℕ) (s u : Sheet) (r : Option ℕ) → Front s.shape.sets d b [] → Result wanted s u d r → WorkedOut wanted b s u r
@@ -56,8 +61,8 @@ table_swap : (k : ℕ) (c d : C) (m : ℕ) (δ : ℕ → ℕ → ℕ) (f : ℕ �
 table_swap k c d m δ f t = record { connected = t.connected; says = λ w h. (let s = t.says w h in (λ e. ((s.0 e).1, (s.0 e).0), λ l. s.1 (l.1, l.0))) }
 
 meets_swap : (wanted : Wanted) (k n : ℕ) (c d : C) (m : ℕ) (δ : ℕ → ℕ → ℕ) (f : ℕ → Bool) → Meets wanted k n (and1 c d) m δ f → Meets wanted k n (and1 d c) m δ f
-meets_swap Exact k n c d m δ f t = record { collapsed = t.collapsed; fits = fits_swap k n c d t.fits; table = table_swap k c d m δ f t.table }
-meets_swap Any k n c d m δ f t = record { fits = fits_swap k n c d t.fits; table = table_swap k c d m δ f t.table }
+meets_swap Exact k n c d m δ f t = record { collapsed = t.collapsed; ordered = t.ordered; fits = fits_swap k n c d t.fits; table = table_swap k c d m δ f t.table }
+meets_swap Any k n c d m δ f t = record { ordered = t.ordered; fits = fits_swap k n c d t.fits; table = table_swap k c d m δ f t.table }
 
 pub result_swap : (wanted : Wanted) (s u : Sheet) (c d : C) (r : Option ℕ) → Result wanted s u (and1 c d) r → Result wanted s u (and1 d c) r
 result_swap wanted s u c d None y = λ f. y (fits_swap s.shape.sets s.shape.most d c f)

@@ -1,5 +1,5 @@
 -- Rows and acceptance of a table, taken out of the memory that it lies in.
-use Rattle.std.proofs.Common.{◌≡◌, ℕ, ◌+◌, ◌-◌, ◌*◌, ◌^◌, ◌<◌, ◌≤◌, Bool, false, ◌==◌, List, [], length, get_or, take, drop, map, sym, refl, ap, ◌∙◌, subst, append-nil, arith, get_or-take, pow_pos, pow_mono}
+use Rattle.std.proofs.Common.{◌≡◌, ℕ, ◌+◌, ◌-◌, ◌*◌, ◌<◌, ◌≤◌, Bool, false, ◌==◌, List, [], length, get_or, take, drop, map, sym, refl, ap, ◌∙◌, subst, append-nil, arith, get_or-take}
 use Rattle.std.proofs.lemmas.List.{get_or-map, length-take-le}
 use Rattle.tables.specs.Cells.{entry, column, accepts}
 use Rattle.tables.proofs.CellsLaws.{copied_entry, row_entry}
@@ -16,7 +16,3 @@ pub copied_accept : (from : List ℕ) (to : List Bool) (m q : ℕ) → to ≡ ma
 copied_accept from to m q e r h =
     let l = length-take-le m from r in
     ap (λ xs. get_or xs q false) e ∙ get_or-map (λ x. x == 1) (take m from) q 0 false (omega arith) ∙ ap (λ x. x == 1) (get_or-take m from q 0 h)
-
--- of at most twelve sets there are at most 4096 columns, and one at least
-pub columns_few : (k : ℕ) → k ≤ 12 → (2 ^ k ≤ 4096) × (0 < 2 ^ k)
-columns_few k h = let p : 2 ^ k ≤ 2 ^ 12 = pow_mono h in let q = pow_pos k in (omega arith, omega arith)

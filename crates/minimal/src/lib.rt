@@ -3,5 +3,4 @@
 
 pub mod automaton;
 pub mod automaton_of;
-pub mod in_order;
 pub mod refusal;

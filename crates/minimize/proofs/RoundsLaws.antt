@@ -2,6 +2,7 @@
 use Rattle.std.proofs.Common.{◌≡◌, ℕ, ◌+◌, ◌^◌, ◌<◌, ◌≤◌, Bool, [], ◌∷◌, sym, ap, ◌∙◌, subst, arith}
 use native.Mathlib.Decide.{ℕ_discrete}
 use Rattle.automata.specs.Joined.{Joined, Stable}
+use Rattle.automata.proofs.Counting.{pigeon}
 use Rattle.automata.proofs.Joined.{stable_joined}
 use Rattle.automata.specs.Product.{pair}
 use Rattle.automata.specs.Tables.{Alike}
@@ -20,11 +21,6 @@ pub record Refined (m : ℕ) (δ : ℕ → ℕ → ℕ) (cls : ℕ → ℕ) (j :
   pub same : (p q : ℕ) → p < m → q < m → cls p ≡ cls q → ((a : ℕ) → a < j → cls (δ p a) ≡ cls (δ q a)) → cur p ≡ cur q
   pub old : (p q : ℕ) → p < m → q < m → cur p ≡ cur q → cls p ≡ cls q
   pub steps : (p q a : ℕ) → p < m → q < m → a < j → cur p ≡ cur q → cls (δ p a) ≡ cls (δ q a)
-
--- the parts are exactly the classes that are alike
-pub record Done (k m : ℕ) (δ : ℕ → ℕ → ℕ) (f : ℕ → Bool) (cls first : ℕ → ℕ) (n : ℕ) : Type 0 where
-  pub parts : Partition m cls first n
-  pub joined : Joined k m δ f cls first n
 
 -- classes that are alike accept alike
 pub coarse_start : {m : ℕ} {f : ℕ → Bool} {cls first : ℕ → ℕ} {n : ℕ} → Parted m f cls first n → (k : ℕ) (δ : ℕ → ℕ → ℕ) → Coarse k m δ f cls first n
@@ -51,27 +47,28 @@ module _ {k m : ℕ} {δ : ℕ → ℕ → ℕ} {f : ℕ → Bool} where
     accepts = λ p q hp hq s. c.accepts p q hp hq (sym (e p hp) ∙ s ∙ e q hq);
   }
 
-  pub done_copied : {cls first : ℕ → ℕ} {n : ℕ} → Done k m δ f cls first n → 0 < m → (cur : ℕ → ℕ) → ((q : ℕ) → q < m → cur q ≡ cls q) → Done k m δ f cur first n
-  done_copied {first = first} d h cur e =
-      let j = d.joined in
-      record {
-        parts = parts_same d.parts cur e;
-        joined = record {
-          start = e 0 h ∙ j.start;
-          cls_below = λ q hq. rw (e q hq) (j.cls_below q hq);
-          rep_below = j.rep_below;
-          cls_rep = λ i hi. e (first i) (j.rep_below i hi) ∙ j.cls_rep i hi;
-          alike = λ p q hp hq s. j.alike p q hp hq (sym (e p hp) ∙ s ∙ e q hq);
-          apart = λ p q hp hq a. e p hp ∙ j.apart p q hp hq a ∙ sym (e q hq);
-        };
-      }
+  pub joined_copied : {cls first : ℕ → ℕ} {n : ℕ} → Joined k m δ f cls first n → 0 < m → (cur : ℕ → ℕ) → ((q : ℕ) → q < m → cur q ≡ cls q) → Joined k m δ f cur first n
+  joined_copied {first = first} j h cur e = record {
+    start = e 0 h ∙ j.start;
+    cls_below = λ q hq. rw (e q hq) (j.cls_below q hq);
+    rep_below = j.rep_below;
+    cls_rep = λ i hi. e (first i) (j.rep_below i hi) ∙ j.cls_rep i hi;
+    least = λ q hq. rw (e q hq) (j.least q hq);
+    rising = j.rising;
+    alike = λ p q hp hq s. j.alike p q hp hq (sym (e p hp) ∙ s ∙ e q hq);
+    apart = λ p q hp hq a. e p hp ∙ j.apart p q hp hq a ∙ sym (e q hq);
+  }
+
+  -- no more joined classes than classes
+  pub joined_few : {cls first : ℕ → ℕ} {n : ℕ} → Joined k m δ f cls first n → n ≤ m
+  joined_few {first = first} {n = n} j = pigeon n m first j.rep_below (λ i l hi hl e. (let a = j.cls_rep i hi in let b = j.cls_rep l hl in cc))
 
   module _ {width : ℕ} (wide : width ≡ 2 ^ k) (below : (q a : ℕ) → q < m → a < width → δ q a < m) where
-    pub stable_done : {cls first : ℕ → ℕ} {n : ℕ} → Partition m cls first n → Stable k m δ f cls → 0 < m → Done k m δ f cls first n
-    stable_done {cls} {first} {n} p s h = record { parts = p; joined = stable_joined k m δ f cls (closed k wide below) s first n (parts_start p h) p.below p.first_below p.first_in }
+    pub stable_done : {cls first : ℕ → ℕ} {n : ℕ} → Partition m cls first n → Stable k m δ f cls → 0 < m → Joined k m δ f cls first n
+    stable_done {cls} {first} {n} p s h = stable_joined k m δ f cls (closed k wide below) s first n (parts_start p h) p.below p.first_below p.first_in p.first_least p.rising
 
     -- where every class is alone there is nothing left to split
-    pub done_alone : {cls first : ℕ → ℕ} {n : ℕ} → Coarse k m δ f cls first n → n ≡ m → 0 < m → Done k m δ f cls first n
+    pub done_alone : {cls first : ℕ → ℕ} {n : ℕ} → Coarse k m δ f cls first n → n ≡ m → 0 < m → Joined k m δ f cls first n
     done_alone {cls} c e = stable_done c.parts (record {
       whole = c.whole;
       accepts = c.accepts;
@@ -121,7 +118,7 @@ module _ {k m : ℕ} {δ : ℕ → ℕ → ℕ} {f : ℕ → Bool} where
         round_more = refined_more c.parts r.old d.parts.below
 
         -- one that made as many has changed nothing, so the partition is stable
-        pub done_same : 2 ^ k ≤ j → n ≡ n₀ → 0 < m → Done k m δ f cur first n
+        pub done_same : 2 ^ k ≤ j → n ≡ n₀ → 0 < m → Joined k m δ f cur first n
         done_same e s = stable_done d.parts (record {
           whole = d.whole;
           accepts = d.accepts;

@@ -1,3 +1,3 @@
 pub mod SpellLaws
-pub mod SearchLaws
+pub mod StepsLaws
 pub mod FirstLaws

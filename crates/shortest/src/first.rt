@@ -1,20 +1,18 @@
-// The first class found that accepts, or the first that does not.
-ghost use Rattle.std.specs.Prelude.{ℕ, ◌<◌, ◌≤◌, length, MatchOption, slice_index};
-ghost use Rattle.tables.specs.Cells.{accepts};
+// The first class that accepts, or the first that does not.
+ghost use Rattle.std.specs.Prelude.{◌^◌, ◌<◌, MatchOption};
 ghost use Rattle.tables.specs.View.{accepting};
 ghost use Rattle.shortest.specs.First.{Foremost, Nowhere};
 
 use tables::cells::{Class, Table};
 
-// The number of the first class found, from number `from` on, that accepts (`wanted` is true) or does not (false), by the order in which they were found.
-pub fn first(t: Table, queue: &[u32], from: usize, found: usize, wanted: bool) -> Option<usize>
-    requires room { found ≤ length queue.now }
-    requires below { (j : ℕ) → j < found → slice_index queue.now j < t.classes }
-    ensures { MatchOption result (Nowhere (λ j. accepting t.entry (slice_index queue.now j)) from found wanted) (Foremost (λ j. accepting t.entry (slice_index queue.now j)) from found wanted) }
+/// The first class that accepts (`wanted` is true) or does not (false).
+pub fn first(t: Table, wanted: bool) -> Option<usize>
+    requires few { t.classes < 2 ^ 32 }
+    ensures { MatchOption result (Nowhere (accepting t.entry) t.entry.classes wanted) (Foremost (accepting t.entry) t.entry.classes wanted) }
 {
-    for j in from..found {
-        if t.accepts(Class(queue[j])) == wanted {
-            return Some(j);
+    for q in 0..t.classes {
+        if t.accepts(Class(q as u32)) == wanted {
+            return Some(q);
         }
     }
     None

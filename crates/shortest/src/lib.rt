@@ -2,5 +2,5 @@
 #![tactic(auto)]
 
 pub mod first;
-pub mod search;
 pub mod spell;
+pub mod steps;

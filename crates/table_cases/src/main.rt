@@ -4,7 +4,7 @@
 //     B: some column is 1. Classes 0 and 1: none yet, some.
 //     C: exactly one column is 1. Classes 0, 1 and 2: none yet, one, more.
 //     D: class 0 leads to 1, and class 1 to 0 and 1.
-//     E: a 1 behind a 0. Classes 0, 2 and 1: none yet, a 0, both; so the classes are found in another order than that of their numbers.
+//     E: a 1 behind a 0. Classes 0, 1 and 2: none yet, a 0, both.
 #![tactic(auto)]
 
 mod atom_case;
@@ -18,7 +18,7 @@ mod projected;
 use atom_case::atom_case;
 use checked::is_table;
 use combined::{complement_case, product_case};
-use found::search_case;
+use found::steps_case;
 use joined::join_case;
 use projected::{beyond_case, subsets_case};
 use std::io;
@@ -51,11 +51,12 @@ fn project_cases(rt: &HostRuntime) -> io::Result<()> {
     subsets_case(rt, &[1, 1, 0, 1], &[0, 1], 2, &[0, 1], None, 2)
 }
 
-// Of B and E, and of a table that accepts every word.
-fn search_cases(rt: &HostRuntime) -> io::Result<()> {
-    search_case(rt, &[0, 1, 1, 1], &[0, 1], 2)?;
-    search_case(rt, &[2, 0, 1, 1, 2, 1], &[0, 1, 0], 3)?;
-    search_case(rt, &[0, 0], &[1], 1)
+// Of B and E, of E with its last two classes exchanged, so that they are not in the order of their first words, and of a table that accepts every word.
+fn steps_cases(rt: &HostRuntime) -> io::Result<()> {
+    steps_case(rt, &[0, 1, 1, 1], &[0, 1], 2)?;
+    steps_case(rt, &[1, 0, 1, 2, 2, 2], &[0, 0, 1], 3)?;
+    steps_case(rt, &[2, 0, 1, 1, 2, 1], &[0, 1, 0], 3)?;
+    steps_case(rt, &[0, 0], &[1], 1)
 }
 
 fn run(rt: &HostRuntime) -> anyhow::Result<()> {
@@ -65,7 +66,7 @@ fn run(rt: &HostRuntime) -> anyhow::Result<()> {
     product_case(rt, 2)?;
     project_cases(rt)?;
     join_case(rt)?;
-    search_cases(rt)?;
+    steps_cases(rt)?;
     atom_case(rt, 4)?;
     atom_case(rt, 2)?;
     Ok(())

@@ -1,5 +1,6 @@
 use Rattle.std.proofs.Common.{◌≡◌, ◌+◌, ◌*◌, ◌^◌, ◌≤◌, ◌<◌, length, sym, ap, ◌∙◌, subst, arith}
 use Rattle.claims.specs.Sizes.{Fits}
+use Rattle.tables.specs.View.{accepting, moves}
 use Rattle.workspace.specs.Floor.{floor_words}
 use Rattle.lengths.proofs.JudgeLaws.{claim_few, claim_front, lent_whole, work_enough}
 use Rattle.construct.specs.declared.wanted.Wanted.TheVariants.{Exact}
@@ -7,6 +8,7 @@ use Rattle.construct.proofs.LentLaws.{whole_room}
 use Rattle.construct.proofs.StandsLaws.{fits_none, stands_exact, stands_fits}
 use Rattle.minimal.specs.Minimal.{Minimal}
 use Rattle.minimal.proofs.MadeLaws.{made, too_many}
+use Rattle.minimal.proofs.OrderLaws.{minimal}
 use Rattle.minimal.proofs.automaton_of.automaton_of.Goals as goal
 
 pub returns-then-n-eq0 : goal.returns-then-n-eq0
@@ -68,5 +70,7 @@ returns c =
     let same : c.table.result.sets ≡ k = c.table.ensures.sets ∙ ap (λ z. z.sets) shape ∙ e in
     let worked = stands_exact u d c.in-Some-work_out.m x c.table.result c.table.ensures in
     let fits : Fits k n d = rw (← e, ← c.new-shape.ensures.most) (subst (λ z. Fits z.sets z.most d) shape (stands_fits Exact u d c.in-Some-work_out.m x)) in
-    let minimal : Minimal k d t = subst (λ j. Minimal j d t) same (c.in_ok-automaton.ensures u.shape.most d worked) in
-    made s c.args.most n k d y t minimal fits c.largest-n.ensures.within
+    let r = c.table.result in
+    let a = c.in_ok-automaton.ensures in
+    let least = minimal r.sets u.shape.most d r.table.classes (moves r.table) (accepting r.table) worked t a.sets a.states (λ q b h g. a.leads q b h (omega (arith, r.wide))) a.accepts in
+    made s c.args.most n k d y t (subst (λ j. Minimal j d t) same least) fits c.largest-n.ensures.within

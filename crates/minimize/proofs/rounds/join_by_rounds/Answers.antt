@@ -1,7 +1,8 @@
 use Rattle.std.proofs.Common.{get_or, sym, arith}
+use Rattle.automata.specs.Joined.{Joined}
 use Rattle.tables.specs.Cells.{accepts, entry}
 use Rattle.minimize.proofs.PartsLaws.{parts_few}
-use Rattle.minimize.proofs.RoundsLaws.{Done, coarse_start, coarse_copied, refined_column, refined_skip, coarse_column, round_more, done_same, done_alone, done_copied}
+use Rattle.minimize.proofs.RoundsLaws.{coarse_start, coarse_copied, refined_column, refined_skip, coarse_column, round_more, done_same, done_alone, joined_copied, joined_few}
 use Rattle.minimize.proofs.rounds.join_by_rounds.Goals as goal
 use Rattle.minimize.proofs.rounds.join_by_rounds.Goals.{then-loop-number-test+else-is_marked+then-count-t, else-loop-number-test+then-count-before}
 
@@ -41,12 +42,12 @@ pub returns : goal.returns
 returns c =
     let t = c.args.t.table in
     let end = c.loop-number-test in
-    let done : Done c.args.t.sets t.classes (entry t.rows.now t.width) (accepts t.accept.now) (λ q. get_or end.anew q 0) (λ i. get_or end.firsts i 0) end.count = elim end.branch [
+    let done : Joined c.args.t.sets t.classes (entry t.rows.now t.width) (accepts t.accept.now) (λ q. get_or end.anew q 0) (λ i. get_or end.firsts i 0) end.count = elim end.branch [
       | then-loop-number-test+else-is_marked+then-count-t v ↦
           let d = coarse_column c.args.t.wide t.below c.refine.invariant.1 c.loop-number.invariant.1 v.renumber-count.ensures (omega arith) in
           rw (v.anew-is, v.firsts-is, v.count-is) (done_alone c.args.t.wide t.below d v.if-count-t.true (omega arith))
       | else-loop-number-test+then-count-before v ↦
           rw (v.anew-is, v.firsts-is, v.count-is) (done_same c.args.t.wide t.below c.refine.invariant.1 c.loop-number.invariant.1 c.loop-number.invariant.0 (omega arith) v.if-count-before.true (omega arith))
     ] in
-    let copied = done_copied done (omega arith) (λ q. get_or c.copy-2.new.to q 0) c.copy-2.ensures in
-    record { joined = copied.joined; parts = copied.parts; few = parts_few copied.parts }
+    let copied = joined_copied done (omega arith) (λ q. get_or c.copy-2.new.to q 0) c.copy-2.ensures in
+    record { joined = copied; few = joined_few copied }
