@@ -1,4 +1,5 @@
--- From the table of an atom's residuals, joined, to the exact table of the claim, or that it does not fit.
+-- From the table of an atom's residuals, joined, to the exact table of the claim, or that it does
+-- not fit.
 use Rattle.std.proofs.Common.{◌≡◌, ℕ, Option, None, Some, MatchOption, arith}
 use Rattle.automata.proofs.Counting.{pigeon}
 use Rattle.automata.proofs.Residuals.{number, number_same}

@@ -1,4 +1,5 @@
--- What is left of a claim without parts: an automaton whose states are residuals, and a memory in which they are found.
+-- What is left of a claim without parts: an automaton whose states are residuals, and a memory in
+-- which they are found.
 use Rattle.std.specs.Prelude.{ℕ, slice_index_or}
 use Rattle.automata.specs.Residuals.{ends, moves, whole}
 use Rattle.automata.specs.declared.residual.Residual.{Residual}

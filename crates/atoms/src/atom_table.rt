@@ -1,5 +1,7 @@
-// The exact table of a claim without parts: its residuals are searched, and those that are alike joined.
-// Two sets that are one make residuals that are alike, as for `next x x`, so whether the claim fits is known only once they are joined.
+// The exact table of a claim without parts: its residuals are searched, and those that are alike
+// joined.
+// Two sets that are one make residuals that are alike, as for `next x x`, so whether the claim fits
+// is known only once they are joined.
 ghost use Rattle.std.specs.Prelude.{◌≡◌, ◌+◌, ◌*◌, ◌^◌, ◌<◌, ◌≤◌, length, MatchOption};
 ghost use Rattle.claims.specs.Sizes.{Fits};
 ghost use Rattle.claims.specs.Atoms.{atom as claim, Named};
@@ -17,8 +19,10 @@ use worklist::explore::explore;
 /// As many states there are at most: the residuals.
 pub const STATES: usize = 9;
 
-/// The exact table of the claim, written on the sheet: how many classes it has, or that they are more than the sheet has room for.
-/// Scratch: a row for each state, six words for each, and one for each pair of them. What it held before does not matter.
+/// The exact table of the claim, written on the sheet: how many classes it has, or that they are
+/// more than the sheet has room for.
+/// Scratch: a row for each state, six words for each, and one for each pair of them. What it held
+/// before does not matter.
 pub fn atom_table(atom: Atom, scratch: &mut [u32], sheet: &mut Sheet) -> Option<usize>
     requires named { Named sheet.old.shape.sets atom }
     requires scratch { 9 * sheet.old.shape.width + 135 ≤ length scratch.old }

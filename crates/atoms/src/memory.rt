@@ -5,7 +5,8 @@ ghost use Rattle.claims.specs.Atoms.{Named};
 use automata::residual::Residual;
 use claims::atom::Atom;
 
-/// The residuals of a claim without parts about some of `sets` sets, as states: number i is found[i]. There are nine, and there is room for one more.
+/// The residuals of a claim without parts about some of `sets` sets, as states: number i is
+/// found[i]. There are nine, and there is room for one more.
 #[derive(Clone, Copy)]
 pub struct States {
     pub atom: Atom,

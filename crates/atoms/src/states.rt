@@ -1,4 +1,5 @@
-// The residuals of an atom as they are found. They are few, so one is looked for among those found by comparing.
+// The residuals of an atom as they are found. They are few, so one is looked for among those found
+// by comparing.
 ghost use Rattle.std.specs.Prelude.{◌≡◌, ℕ, ◌<◌, ◌≢◌, length, slice_index_or, MatchOption};
 ghost use Rattle.automata.specs.declared.residual.Residual.{Residual};
 ghost use Rattle.automata.specs.declared.residual.Residual.TheVariants.{Dead};

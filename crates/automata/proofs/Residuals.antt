@@ -1,4 +1,5 @@
--- Claims without parts: what is left of one once a word is read says whether it holds of the word, so it is regular.
+-- Claims without parts: what is left of one once a word is read says whether it holds of the word,
+-- so it is regular.
 use Rattle.std.proofs.Common.{◌≡◌, ℕ, zero, suc, ◌<◌, Bool, true, false, ◌↔◌, List, [], ◌∷◌, get_or, sym, refl, ap, ◌∙◌, arith}
 use mathlib.Core.Bool.{false≢true}
 use Rattle.words.specs.Words.{Sets, Word, sets}

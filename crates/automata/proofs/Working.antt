@@ -26,12 +26,14 @@ use Rattle.automata.proofs.Residuals.{atom_explored}
 use Rattle.automata.proofs.Subsets.{accepts_says, but_left, subset_apart, subset_ext, subset_same, subset_says}
 use Rattle.automata.proofs.Tables.{collapsed_same, exact_many, exact_top, table_exact, table_same}
 
--- A claim without parts tells apart what leaves something different of it, and fits where its classes do.
+-- A claim without parts tells apart what leaves something different of it, and fits where its
+-- classes do.
 pub atom_top : (k n : ℕ) (a : Atom) → ((ws : List Word) × Classes k (SameLeft k (Of (atom a))) ws × (length ws ≤ n)) ↔ Fits k n (atom a)
 atom_top k n (Within x y) = (λ t. t, λ t. t)
 atom_top k n _ = (λ t. t, λ t. t)
 
--- Its classes are those of the table of its residuals, searched and joined: g is the acceptance that the joining saw.
+-- Its classes are those of the table of its residuals, searched and joined: g is the acceptance
+-- that the joining saw.
 module _ (k n : ℕ) (a : Atom) (m : ℕ) (at : ℕ → Residual) (δ : ℕ → ℕ → ℕ) (g : ℕ → Bool) (e : Explored k (moves a) (whole a) m at δ) (same : (q : ℕ) → q < m → g q ≡ ends (at q)) (cls rep : ℕ → ℕ) (o : ℕ) (j : Joined k m δ g cls rep o) where
   module _ (δ' : ℕ → ℕ → ℕ) (f' : ℕ → Bool) (w : Written k δ g cls rep o δ' f') where
     atom_written : Table k (Of (atom a)) o δ' f'
@@ -73,7 +75,8 @@ worked_not k n c m δ f g t e = record {
   collapsed = collapsed_same k m δ δ (λ q. not (f q)) g t.table.connected (λ p q hp hq a. t.collapsed p q hp hq (λ x hx. not_same (f (run δ p x)) (f (run δ q x)) (a x hx))) (λ q a _ _. refl) e;
 }
 
--- A table is the same with other functions that agree with its own on its classes, as where it is copied.
+-- A table is the same with other functions that agree with its own on its classes, as where it is
+-- copied.
 pub shown_same : (k n : ℕ) (c : C) (m : ℕ) (δ δ' : ℕ → ℕ → ℕ) (f f' : ℕ → Bool) → Shown k n c m δ f → ((q a : ℕ) → q < m → a < 2 ^ k → δ' q a ≡ δ q a) → ((q : ℕ) → q < m → f' q ≡ f q) → Shown k n c m δ' f'
 shown_same k n c m δ δ' f f' t leads ends = record { table = table_same k (Of c) m δ δ' f f' t.table leads ends; ordered = ordered_same k m δ δ' t.table.connected t.ordered leads; fits = t.fits }
 

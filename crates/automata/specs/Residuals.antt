@@ -1,4 +1,5 @@
--- Claims without parts: what is left of each once a column is read, and whether that holds where nothing follows.
+-- Claims without parts: what is left of each once a column is read, and whether that holds where
+-- nothing follows.
 use Rattle.std.specs.Prelude.{ℕ, Bool, true, false}
 use Rattle.words.specs.Words.{bit}
 use Rattle.claims.specs.Atoms.{first, second}

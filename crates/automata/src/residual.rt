@@ -4,8 +4,10 @@ ghost use Rattle.automata.specs.Residuals.{after, ends, whole};
 
 use claims::atom::Atom;
 
-/// What can be left of a claim about sets x and y. Inside: x within y; One: x single; Behind: x next y; Far: x before y; Alone: x has no place and y one;
-/// Here: x none and y the first place alone; Clear: neither has any; Gone: x has none; Dead: nothing can hold any more.
+/// What can be left of a claim about sets x and y. Inside: x within y; One: x single; Behind: x
+/// next y; Far: x before y; Alone: x has no place and y one;
+/// Here: x none and y the first place alone; Clear: neither has any; Gone: x has none; Dead:
+/// nothing can hold any more.
 #[derive(Clone, Copy, Debug, PartialEq, Eq)]
 pub enum Residual {
     Inside,

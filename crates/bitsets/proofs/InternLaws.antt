@@ -1,4 +1,5 @@
--- Chains of the rows of each bucket: what a row that is filed changes, and where a walk along a chain ends.
+-- Chains of the rows of each bucket: what a row that is filed changes, and where a walk along a
+-- chain ends.
 use Rattle.std.proofs.Common.{◌≡◌, ℕ, ◌+◌, ◌-◌, ◌*◌, ◌/◌, ◌%◌, ◌^◌, ◌<◌, ◌≤◌, ◌&&◌, eqb, ltb, List, length, get_or, set, sym, ap, ◌∙◌, subst, arith}
 use native.Mathlib.Decide.{ℕ_discrete, dec_lt}
 use lib.Bits.{bit_xor}
@@ -123,7 +124,8 @@ module _ (heads links buckets : List ℕ) (n h : ℕ) (ch : Chains heads links b
   pub chains_more : Chains (set heads h n) (set links n (first_of heads buckets n h)) (set buckets n h) (n + 1)
   chains_more = record { head = λ g l. head_more g (omega (arith, length-set heads h n)); link = link_more }
 
--- a walk along the chain of bucket h: row n is none of the rows at and above `next`, of which the one before is in bucket h
+-- a walk along the chain of bucket h: row n is none of the rows at and above `next`, of which the
+-- one before is in bucket h
 pub record Walk (sets : List ℕ) (w n : ℕ) (buckets : List ℕ) (h next : ℕ) : Type 0 where
   pub low : next ≤ n
   pub filed : 0 < next → get_or buckets (next - 1) 0 ≡ h

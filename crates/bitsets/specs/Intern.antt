@@ -1,4 +1,5 @@
--- Rows that are found again by hashing: every row is filed under a bucket, and the rows of a bucket are chained, the last one first.
+-- Rows that are found again by hashing: every row is filed under a bucket, and the rows of a bucket
+-- are chained, the last one first.
 use Rattle.std.specs.Prelude.{◌≡◌, ℕ, ◌+◌, ◌-◌, ◌*◌, ◌/◌, ◌%◌, ◌^◌, ◌<◌, ◌≤◌, cond, ◌&&◌, List, [], ◌∷◌, length, ◌==◌, ◌≢◌, bit_xor, nat_lt, slice_index}
 use Rattle.bitsets.specs.Bitrows.{row_at, member}
 
@@ -21,7 +22,8 @@ pub record Last (buckets : List ℕ) (h n c : ℕ) : Type 0 where
   pub filed : 0 < c → slice_index buckets (c - 1) ≡ h
   pub no_later : (j : ℕ) → c ≤ j → j < n → slice_index buckets j ≢ h
 
--- what bucket h's head says of the first n rows: the head counts only if it is one of them and filed under h, so that heads need no clearing
+-- what bucket h's head says of the first n rows: the head counts only if it is one of them and
+-- filed under h, so that heads need no clearing
 unfoldable pub first_of : List ℕ → List ℕ → ℕ → ℕ → ℕ
 first_of heads buckets n h = cond (nat_lt (slice_index heads h) n && slice_index buckets (slice_index heads h) == h) (slice_index heads h + 1) 0
 

@@ -1,4 +1,5 @@
-// Sets of classes as rows of bits, 32 classes to a word. A row is a slice of words, so that rows one behind the other are parts of one slice.
+// Sets of classes as rows of bits, 32 classes to a word. A row is a slice of words, so that rows
+// one behind the other are parts of one slice.
 ghost use Rattle.std.specs.Prelude.{◌≡◌, ℕ, ◌+◌, ◌*◌, ◌^◌, ◌<◌, ◌≤◌, true, false, length, Decides};
 ghost use Rattle.tables.specs.Cells.{accepts};
 ghost use Rattle.bitsets.specs.Bitrows.{has, row_at, Adds, SomeBit, BitsBelow, Below, Meets};
@@ -32,7 +33,8 @@ pub fn same_rows(sets: &[u32], w: usize, i: usize, j: usize) -> bool
     sets[i * w..i * w + w] == sets[j * w..j * w + w]
 }
 
-// Whether one of the classes from + y accepts, y the bits of a word: shifts the word down until no bit is left.
+// Whether one of the classes from + y accepts, y the bits of a word: shifts the word down until no
+// bit is left.
 fn meets_word(word: u32, from: usize, accept: &[u32]) -> bool
     requires inside { BitsBelow (length accept.now) from word }
     requires small { from < 2 ^ 40 }

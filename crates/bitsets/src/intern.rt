@@ -1,5 +1,7 @@
-// Finds a row among the rows before it, by hashing. The rows of one bucket are chained: heads[h] is the last row of bucket h, and links[i] is 1 more than the last row
-// before row i that is in row i's bucket, or 0 where there is none. Nothing is cleared before use: heads[h] counts only if it is one of the rows and that row is in bucket h.
+// Finds a row among the rows before it, by hashing. The rows of one bucket are chained: heads[h] is
+// the last row of bucket h, and links[i] is 1 more than the last row before row i that is in row
+// i's bucket, or 0 where there is none. Nothing is cleared before use: heads[h] counts only if it
+// is one of the rows and that row is in bucket h.
 // Which hash is taken changes no promise: equal rows are in one bucket whatever it is.
 ghost use Rattle.std.specs.Prelude.{◌≡◌, ℕ, ◌+◌, ◌*◌, ◌%◌, ◌^◌, ◌<◌, ◌≤◌, length, MatchOption, ◌≢◌, slice_set};
 ghost use Rattle.bitsets.specs.Bitrows.{row_at};
@@ -53,7 +55,8 @@ fn file(h: u32, n: usize, heads: &mut [u32], links: &mut [u32], buckets: &mut [u
     heads[h as usize] = n as u32;
 }
 
-// Walks along the chain of bucket h for a row that is the same as row n: the rows at and above `next` have been ruled out, and links fall.
+// Walks along the chain of bucket h for a row that is the same as row n: the rows at and above
+// `next` have been ruled out, and links fall.
 fn find(
     sets: &[u32],
     w: usize,

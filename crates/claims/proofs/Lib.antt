@@ -1,4 +1,5 @@
--- Reading claims: bytes begin with at most one claim; their sign; a claim and its parts; the bytes of a whole claim.
+-- Reading claims: bytes begin with at most one claim; their sign; a claim and its parts; the bytes
+-- of a whole claim.
 pub mod OneClaim
 pub mod AtomLaws
 pub mod SignLaws

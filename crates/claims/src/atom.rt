@@ -2,8 +2,9 @@
 ghost use Rattle.std.specs.Prelude.{◌≡◌};
 ghost use Rattle.claims.specs.Atoms.{first, second};
 
-/// A claim without parts, about sets by their numbers: the first lies within the second, the set has exactly one place, the place of the second comes
-/// just behind that of the first, the place of the first comes before that of the second.
+/// A claim without parts, about sets by their numbers: the first lies within the second, the set
+/// has exactly one place, the place of the second comes just behind that of the first, the place of
+/// the first comes before that of the second.
 #[derive(Clone, Copy, Debug, PartialEq, Eq)]
 pub enum Atom {
     Within(usize, usize),

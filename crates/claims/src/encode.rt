@@ -1,5 +1,6 @@
 // A claim's bytes, for the call that judges claims, or why it has none.
-// What is needed is counted before anything is written, so that a refusal says how much, and a claim that is refused costs no memory. Counts stop at usize::MAX.
+// What is needed is counted before anything is written, so that a refusal says how much, and a
+// claim that is refused costs no memory. Counts stop at usize::MAX.
 ghost use Rattle.std.specs.Prelude.{◌≡◌, ◌+◌, ◌≤◌, [], ◌∷◌, ◌++◌, length, min, OnOk, MatchResult};
 ghost use Rattle.claims.specs.Atoms.{atom as of_atom};
 ghost use Rattle.claims.specs.Rows.{row, Claim as IsBytesOf};

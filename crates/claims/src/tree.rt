@@ -6,7 +6,8 @@ ghost use Rattle.claims.specs.Trees.{said};
 use crate::atom::Atom;
 use std::alloc::{AllocError, Global};
 
-/// A claim about finite sets of places, each a number: one without parts, the opposite of one, two together, and that there is a set of which one holds.
+/// A claim about finite sets of places, each a number: one without parts, the opposite of one, two
+/// together, and that there is a set of which one holds.
 #[derive(Debug, Drop)]
 pub enum Claim {
     Atom(Atom),

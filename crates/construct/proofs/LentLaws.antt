@@ -1,4 +1,5 @@
--- That the lent memory suffices: a shorter part needs no more, and of the two parts of an and the smaller gets by with one slot fewer.
+-- That the lent memory suffices: a shorter part needs no more, and of the two parts of an and the
+-- smaller gets by with one slot fewer.
 use Rattle.std.proofs.Common.{◌≡◌, ℕ, zero, suc, ◌+◌, ◌*◌, ◌^◌, ◌<◌, ◌≤◌, suc-mul, pow-suc, arith}
 use Rattle.std.proofs.lemmas.Nat.{mul-le}
 use Rattle.tables.specs.declared.sheet.Shape.{Shape}
@@ -44,6 +45,7 @@ module _ (b : ℕ) (h : Shape) (free rest : ℕ) (cut : rest + slot_words h.widt
   pub rest_free : 4 ≤ b → slot_words h.width h.most ≤ rest
   rest_free g = let t = two_free b h free g l in omega arith
 
--- the words that the call asks for are a slot for the claim's own table, nine free ones, scratch and pairs
+-- the words that the call asks for are a slot for the claim's own table, nine free ones, scratch
+-- and pairs
 pub whole_room : (n W w : ℕ) → 8192 + (n + 1) * (16 * W + (256 + n)) ≤ w → slot_words W n + (9 * slot_words W n + (scratch_words W n + pair_words n)) ≤ w
 whole_room n W w h = omega (arith, h)

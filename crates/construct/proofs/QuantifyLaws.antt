@@ -1,4 +1,5 @@
--- From an exact table to the table of its sets of live classes, which says "some set x", or that this does not fit.
+-- From an exact table to the table of its sets of live classes, which says "some set x", or that
+-- this does not fit.
 use Rattle.std.proofs.Common.{◌≡◌, ℕ, ◌<◌, ◌≤◌, true, ◌↔◌, List, Option, sym, ap, ◌∙◌, subst}
 use Rattle.automata.specs.Subsets.{Completes, Live}
 use Rattle.automata.specs.Tables.{Collapsed, Connected}

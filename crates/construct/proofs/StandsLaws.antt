@@ -1,4 +1,5 @@
--- A claim's table on a sheet: what a reader of it needs, and that the two parts of an and may be worked out in either order.
+-- A claim's table on a sheet: what a reader of it needs, and that the two parts of an and may be
+-- worked out in either order.
 use Rattle.std.proofs.Common.{◌≡◌, ℕ, ◌<◌, Bool, List, [], None, Some, Option, ◌∙◌, subst, arith}
 use Rattle.claims.specs.Claims.{C, Of, and1, before, next, not1, single, some, within}
 use Rattle.claims.specs.Fronts.{Front}

@@ -12,11 +12,13 @@ use Rattle.construct.specs.Stands.{Result}
 abbrev pub IsPart : ℕ → List ℕ → Type 0
 IsPart k s = (c : C) × Front k c s []
 
--- the part with bytes b is worked out as it is wanted, whichever claim it is: on a sheet that was s and is u
+-- the part with bytes b is worked out as it is wanted, whichever claim it is: on a sheet that was s
+-- and is u
 abbrev pub WorkedOut : Wanted → List ℕ → Sheet → Sheet → Option ℕ → Type 0
 WorkedOut wanted b s u r = (c : C) → Front s.shape.sets c b [] → Result wanted s u c r
 
--- the two parts of the and with bytes s, which may stand in either order; the shorter has less than half of the bytes
+-- the two parts of the and with bytes s, which may stand in either order; the shorter has less than
+-- half of the bytes
 pub record Halves (k : ℕ) (s longer shorter : List ℕ) : Type 0 where
   pub one : C
   pub other : C
@@ -27,8 +29,10 @@ pub record Halves (k : ℕ) (s longer shorter : List ℕ) : Type 0 where
   pub half : 2 * length shorter < length s
   pub bytes : 5 ≤ length s
 
--- so many free words are room for working out a part of b bytes: a slot for each doubling of its length, less its own. A part of fewer than 2 ^ slots bytes takes
--- as many slots: of the two parts of an and the larger is worked out first, with all of them; the smaller has less than half the bytes, and gets by with one fewer
+-- so many free words are room for working out a part of b bytes: a slot for each doubling of its
+-- length, less its own. A part of fewer than 2 ^ slots bytes takes as many slots: of the two parts
+-- of an and the larger is worked out first, with all of them; the smaller has less than half the
+-- bytes, and gets by with one fewer
 pub record Lent (b : ℕ) (h : Shape) (free : ℕ) : Type 0 where
   pub slots : ℕ
   pub bytes : b < 2 ^ slots

@@ -14,8 +14,8 @@ use tables::cells::WordTable;
 use tables::sheet::Sheet;
 use workspace::cut::{Slot, cut_slot};
 
-/// The product of the table of m classes on the sheet and of another, as it is wanted, in place of the first: how many classes it has, or that the two claims
-/// together do not fit.
+/// The product of the table of m classes on the sheet and of another, as it is wanted, in place of
+/// the first: how many classes it has, or that the two claims together do not fit.
 pub fn conjoin(
     wanted: Wanted,
     sheet: &mut Sheet,

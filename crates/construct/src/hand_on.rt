@@ -9,8 +9,10 @@ use tables::cells::WordTable;
 use tables::copy::copy;
 use tables::sheet::Sheet;
 
-/// Writes the table on the sheet as it is wanted: exact, with its classes that are alike joined, or as it is. How many classes it has there.
-/// Scratch is five words for each class, and as many pairs as there are of classes; more of these make joining faster.
+/// Writes the table on the sheet as it is wanted: exact, with its classes that are alike joined, or
+/// as it is. How many classes it has there.
+/// Scratch is five words for each class, and as many pairs as there are of classes; more of these
+/// make joining faster.
 pub fn hand_on(
     t: WordTable,
     wanted: Wanted,

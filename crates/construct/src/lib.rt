@@ -1,4 +1,5 @@
-// A claim worked out, part by part, in lent memory: from the tables of its parts to a table of its own, or that it does not fit.
+// A claim worked out, part by part, in lent memory: from the tables of its parts to a table of its
+// own, or that it does not fit.
 #![tactic(auto)]
 
 pub mod conjoin;

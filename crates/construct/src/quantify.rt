@@ -17,8 +17,8 @@ use tables::sheet::Sheet;
 use words::bits::Set;
 use workspace::cut::{Slot, cut_slot};
 
-/// The sets of live classes that are reached whatever set x is, as a table as it is wanted, in place of that of m classes on the sheet: how many there are, or
-/// that the claim does not fit.
+/// The sets of live classes that are reached whatever set x is, as a table as it is wanted, in
+/// place of that of m classes on the sheet: how many there are, or that the claim does not fit.
 pub fn quantify(
     wanted: Wanted,
     x: Set,

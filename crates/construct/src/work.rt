@@ -4,8 +4,9 @@ ghost use Rattle.workspace.specs.Cut.{slot_words, scratch_words, pair_words};
 
 use tables::sheet::Shape;
 
-/// For tables of one shape: free slots for the tables of parts, scratch, and words for pairs or for sets of classes. What it held before does not matter, and
-/// scratch and pairs are held across no call.
+/// For tables of one shape: free slots for the tables of parts, scratch, and words for pairs or for
+/// sets of classes. What it held before does not matter, and scratch and pairs are held across no
+/// call.
 #[derive(Drop)]
 pub struct Work<'m> {
     pub shape: Shape,

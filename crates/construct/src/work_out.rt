@@ -29,10 +29,13 @@ fn two_parts(rest: &[u8], k: u8) -> (&[u8], &[u8])
     }
 }
 
-/// A table of the part with these bytes, on the sheet, as it is wanted: how many classes it has, or that the part does not fit.
-/// A part is worked out in prefix order: its sign, then its parts. What a sign combines are exact tables, so only the outermost sign, or the first that is no
-/// `not`, may leave its table as it is. Of the two parts of an and the longer is worked out first, with all free memory; the shorter has less than half of the
-/// bytes, and finds room behind the table of the longer. So one slot of free memory for each doubling of the bytes suffices.
+/// A table of the part with these bytes, on the sheet, as it is wanted: how many classes it has, or
+/// that the part does not fit.
+/// A part is worked out in prefix order: its sign, then its parts. What a sign combines are exact
+/// tables, so only the outermost sign, or the first that is no `not`, may leave its table as it is.
+/// Of the two parts of an and the longer is worked out first, with all free memory; the shorter has
+/// less than half of the bytes, and finds room behind the table of the longer. So one slot of free
+/// memory for each doubling of the bytes suffices.
 /// The bytes of the part fall with each call.
 pub fn work_out(part: &[u8], wanted: Wanted, sheet: &mut Sheet, work: &mut Work) -> Option<usize>
     requires part { IsPart sheet.old.shape.sets part.now }

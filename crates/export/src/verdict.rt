@@ -6,7 +6,8 @@ ghost use Rattle.lengths.specs.declared.judged.Judged.{Judged};
 use lengths::judge::judge;
 use lengths::judged::Judged;
 
-// Which answer: 0 always, 1 never, 2 both, 3 no claim, 4 many, 5 out full, 6 few; and for 2 and 5 the lengths of the two first words, else 0.
+// Which answer: 0 always, 1 never, 2 both, 3 no claim, 4 many, 5 out full, 6 few; and for 2 and 5
+// the lengths of the two first words, else 0.
 #[repr(C)]
 #[derive(Clone, Copy)]
 pub struct Verdict {

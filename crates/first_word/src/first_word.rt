@@ -9,7 +9,8 @@ use lengths::judged::Judged;
 use std::alloc::{AllocError, Global};
 use workspace::floor::floor;
 
-/// Of which words a claim holds: of none; of this one first, a column of 32 bits for each place; or it was not found out, since more classes would have to be told apart than are allowed.
+/// Of which words a claim holds: of none; of this one first, a column of 32 bits for each place; or
+/// it was not found out, since more classes would have to be told apart than are allowed.
 #[derive(Debug, Drop)]
 pub enum Found {
     Nothing,
@@ -17,8 +18,10 @@ pub enum Found {
     TooLarge,
 }
 
-/// What is found of the claim that the bytes are, with at most n classes told apart. Fails for memory alone.
-/// A first word is shorter than there are classes, so two words for each class are room for both first words.
+/// What is found of the claim that the bytes are, with at most n classes told apart. Fails for
+/// memory alone.
+/// A first word is shorter than there are classes, so two words for each class are room for both
+/// first words.
 pub fn first_word(alloc: Global, claim: &[u8], n: u32) -> Result<Found, AllocError>
     requires claim { IsClaim claim.now }
     requires fits { floor_words claim.now n + 4 * n ≤ 1048576 }

@@ -12,9 +12,10 @@ use tables::sheet::{Shape, Sheet};
 use workspace::cut::{Slot, cut_slot};
 use workspace::floor::too_few;
 
-// Whether the claim holds of all words, of none, or of which first; `most` is the largest number of classes that may be told apart at a part.
-// Nothing is asked of the arguments: too little work memory, bytes that are no claim and a claim that does not fit are answers. Work memory is free, out is written only where
-// two words are.
+// Whether the claim holds of all words, of none, or of which first; `most` is the largest number of
+// classes that may be told apart at a part.
+// Nothing is asked of the arguments: too little work memory, bytes that are no claim and a claim
+// that does not fit are answers. Work memory is free, out is written only where two words are.
 pub fn judge(claim: &[u8], most: u32, out: &mut [u32], work: &mut [u32]) -> Judged
     ensures { JudgedPost claim.now most out.old out.new (length work.old) result }
 {

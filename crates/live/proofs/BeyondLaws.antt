@@ -1,4 +1,5 @@
--- Marking classes from the accepting ones back: what each step keeps of the lists, of the marks and of the queue, and what is marked at the end.
+-- Marking classes from the accepting ones back: what each step keeps of the lists, of the marks and
+-- of the queue, and what is marked at the end.
 use Rattle.std.proofs.Common.{◌≡◌, ℕ, zero, suc, ◌+◌, ◌-◌, ◌^◌, ◌<◌, ◌≤◌, Bool, true, false, eqb, ◌⊎◌, ◌↔◌, List, ◌∷◌, length, get_or, set, sym, refl, ap, ◌∙◌, subst, inl, inr, arith, pow_pos}
 use native.Mathlib.Decide.{ℕ_discrete, dec_lt}
 use Rattle.std.proofs.lemmas.List.{get_or-set_same, get_or-set_other, length-set}

@@ -1,10 +1,14 @@
-// Which classes are completed beyond the end of a word: further columns, in which at most set x has places, lead from them to a class that accepts.
+// Which classes are completed beyond the end of a word: further columns, in which at most set x has
+// places, lead from them to a class that accepts.
 //
-// They are found from the accepting classes back. For each of the two columns, without and with x, the classes that go by it
-// to class r are kept as a linked list: heads[r] stands for the last of them, links[q] for the one before q, where q + 1 stands for class q
-// and 0 ends the list, so that the numbers fall along a list. Classes that are completed are marked, and queued as they are marked, each once.
-// Of each class in the queue all that go to it in one step are marked. Once that is done for the whole queue, the marked classes
-// hold the accepting ones and all from which a marked one is reached, and no others: those are the completed ones.
+// They are found from the accepting classes back. For each of the two columns, without and with x,
+// the classes that go by it to class r are kept as a linked list: heads[r] stands for the last of
+// them, links[q] for the one before q, where q + 1 stands for class q and 0 ends the list, so that
+// the numbers fall along a list. Classes that are completed are marked, and queued as they are
+// marked, each once.
+// Of each class in the queue all that go to it in one step are marked. Once that is done for the
+// whole queue, the marked classes hold the accepting ones and all from which a marked one is
+// reached, and no others: those are the completed ones.
 ghost use Rattle.std.specs.Prelude.{◌≡◌, ℕ, ◌+◌, ◌*◌, ◌^◌, ◌<◌, ◌≤◌, true, ◌↔◌, length, slice_index};
 ghost use Rattle.words.specs.Bits.{put_bit};
 ghost use Rattle.automata.specs.Subsets.{Completes};
@@ -22,7 +26,8 @@ struct Lists<'a> {
     links: &'a [u32],
 }
 
-// A table, and the classes that come to each of its classes by the two columns: the one in which no set has a place, and the one in which x alone has it.
+// A table, and the classes that come to each of its classes by the two columns: the one in which no
+// set has a place, and the one in which x alone has it.
 #[derive(Clone, Copy)]
 struct Behind<'a, 'b> {
     table: Table<'a>,
@@ -35,7 +40,8 @@ struct Behind<'a, 'b> {
     ghost comers_with: { Comers table.classes table.classes (by_column table.rows.now table.width with_x) with.heads.now with.links.now },
 }
 
-/// Memory for the lists of the two columns and for the queue, each with a word for each of `most` classes. What it held before does not matter.
+/// Memory for the lists of the two columns and for the queue, each with a word for each of `most`
+/// classes. What it held before does not matter.
 #[derive(Drop)]
 pub struct Backward<'m> {
     pub most: usize,
@@ -84,7 +90,8 @@ fn clear(words: &mut [u32], n: usize)
     }
 }
 
-// Lists, for each class, the classes that go to it by column a. Classes are put in rising, each before those that its list has.
+// Lists, for each class, the classes that go to it by column a. Classes are put in rising, each
+// before those that its list has.
 fn comers(t: Table, a: u32, heads: &mut [u32], links: &mut [u32])
     requires few { t.classes < 2 ^ 32 }
     requires column { a < t.width }
@@ -139,7 +146,8 @@ fn mark_comers(
     last
 }
 
-// Marks the accepting classes, in memory with any contents, and puts them into the queue. The queue's tail.
+// Marks the accepting classes, in memory with any contents, and puts them into the queue. The
+// queue's tail.
 fn mark_accepting(t: Table, marks: &mut [u32], queue: &mut [u32]) -> usize
     requires few { t.classes < 2 ^ 32 }
     requires marks { t.classes ≤ length marks.old }
@@ -167,7 +175,8 @@ fn lone(x: Set, sets: u32) -> u32
     with_bit(0, x)
 }
 
-// Marks all classes that go by a column without or with x to the class at place i of the queue. The queue's new tail.
+// Marks all classes that go by a column without or with x to the class at place i of the queue. The
+// queue's new tail.
 fn mark_behind(behind: Behind, marks: &mut [u32], queue: &mut [u32], tail: usize, i: usize) -> usize
     requires place { i < tail }
     requires marking { Marking behind.x.0 behind.table.classes (moves behind.table) (accepting behind.table) marks.old queue.old tail i }
@@ -179,7 +188,8 @@ fn mark_behind(behind: Behind, marks: &mut [u32], queue: &mut [u32], tail: usize
     mark_comers(t, behind.with_x, behind.with, r, marks, queue, more)
 }
 
-/// Marks in `completed`, by 1, each class that is completed by columns in which at most set x has a place; those that are not have other numbers.
+/// Marks in `completed`, by 1, each class that is completed by columns in which at most set x has a
+/// place; those that are not have other numbers.
 /// What `completed` held before does not matter.
 pub fn beyond(t: WordTable, x: Set, completed: &mut [u32], backward: &mut Backward)
     requires few { t.table.classes < 2 ^ 32 }

@@ -1,8 +1,9 @@
 // The dead class of an exact table.
 //
-// A class is dead if nothing can be accepted from it. In a table in which no two classes are alike there is at most one such class:
-// it does not accept, and every column leads back to it. So no search is needed to find it: a class is ruled out by accepting,
-// or by the first column that leads elsewhere.
+// A class is dead if nothing can be accepted from it. In a table in which no two classes are alike
+// there is at most one such class: it does not accept, and every column leads back to it. So no
+// search is needed to find it: a class is ruled out by accepting, or by the first column that leads
+// elsewhere.
 ghost use Rattle.std.specs.Prelude.{◌≡◌, ℕ, ◌^◌, ◌<◌, true, false, ◌⊎◌, ◌↔◌, ◌≢◌, MatchOption};
 ghost use Rattle.automata.specs.Tables.{Connected, Collapsed};
 ghost use Rattle.automata.specs.Subsets.{Live};

@@ -13,7 +13,8 @@ use Rattle.minimal.specs.Minimal.{Minimal, Smallest}
 use Rattle.minimal.specs.View.{accepts, leads, states}
 use Rattle.minimal.specs.declared.automaton.Automaton.{Automaton}
 
--- a table whose classes are told apart has no more classes than any table of the same language: the words by which its classes are found lead apart there
+-- a table whose classes are told apart has no more classes than any table of the same language: the
+-- words by which its classes are found lead apart there
 fewest : (k : ℕ) (L : Lang) (n : ℕ) (γ : ℕ → ℕ → ℕ) (g : ℕ → Bool) (ws : ℕ → Word) → Table k L n γ g → Collapsed k n γ g → Ranked k n γ ws → (m : ℕ) (δ : ℕ → ℕ → ℕ) (f : ℕ → Bool) → Table k L m δ f → n ≤ m
 fewest k L n γ g ws t apart r m δ f s = pigeon n m (λ i. run δ 0 (ws i))
     (λ i h. run_below k m δ s.connected 0 (ws i) s.connected.start (r.columns i h))

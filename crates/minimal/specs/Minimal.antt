@@ -12,8 +12,10 @@ use Rattle.minimal.specs.declared.automaton.Automaton.{Automaton}
 use Rattle.minimal.specs.declared.refusal.Refusal.{Refusal}
 use Rattle.minimal.specs.declared.refusal.Refusal.TheVariants.{NoClaim, TooLarge, OutOfMemory}
 
--- a table of m classes accepts exactly the words of which claim c is true, and each class is reached from the start (table); any two classes are told apart by a word (apart);
--- no table that says the claim has fewer classes (least); and the classes are numbered in the order in which a search from the start finds them (ordered)
+-- a table of m classes accepts exactly the words of which claim c is true, and each class is
+-- reached from the start (table); any two classes are told apart by a word (apart); no table that
+-- says the claim has fewer classes (least); and the classes are numbered in the order in which a
+-- search from the start finds them (ordered)
 pub record Smallest (k : ℕ) (c : C) (m : ℕ) (δ : ℕ → ℕ → ℕ) (f : ℕ → Bool) : Type 0 where
   pub table : Table k (Of c) m δ f
   pub apart : Collapsed k m δ f
@@ -25,13 +27,15 @@ pub record Minimal (k : ℕ) (c : C) (t : Automaton) : Type 0 where
   pub sets : t.sets ≡ k
   pub smallest : Smallest k c (states t) (leads t) (accepts t)
 
--- of bytes s: they are a claim, which fits into n, at most the number allowed, and the automaton is the smallest of it
+-- of bytes s: they are a claim, which fits into n, at most the number allowed, and the automaton is
+-- the smallest of it
 pub record Made (s : List ℕ) (most : ℕ) (t : Automaton) : Type 0 where
   pub claim : IsClaim s
   pub minimal : (k : ℕ) (c : C) → Claim s k c → Minimal k c t
   pub fits : (k : ℕ) (c : C) → Claim s k c → (n : ℕ) × (n ≤ most) × Fits k n c
 
--- n classes do not suffice for the claim, and these are all that are allowed or that 4 MiB have room for
+-- n classes do not suffice for the claim, and these are all that are allowed or that 4 MiB have
+-- room for
 pub record TooMany (s : List ℕ) (most n : ℕ) : Type 0 where
   pub claim : IsClaim s
   pub many : (k : ℕ) (c : C) → Claim s k c → Fits k n c → ⊥

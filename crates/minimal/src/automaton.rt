@@ -6,7 +6,9 @@ ghost use Rattle.tables.specs.View.{moves, accepting};
 use std::alloc::{AllocError, Global};
 use tables::cells::WordTable;
 
-/// An automaton over words of `sets` sets. Its states are numbers from 0, the start; `rows` has a row for each state, in it the state to which each of the 2^sets columns leads, and `accepting` whether the state accepts.
+/// An automaton over words of `sets` sets. Its states are numbers from 0, the start; `rows` has a
+/// row for each state, in it the state to which each of the 2^sets columns leads, and `accepting`
+/// whether the state accepts.
 #[derive(Debug, Drop)]
 pub struct Automaton {
     pub sets: u32,

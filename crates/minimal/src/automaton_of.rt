@@ -14,8 +14,10 @@ use workspace::cut::{Slot, cut_slot};
 use workspace::floor::floor;
 use workspace::largest::largest;
 
-/// The smallest automaton of the claim with these bytes, where at most `most` classes may be told apart at a part.
-/// It is refused if the bytes are no claim, if so many classes do not suffice, or all that 4 MiB have room for, and for want of memory.
+/// The smallest automaton of the claim with these bytes, where at most `most` classes may be told
+/// apart at a part.
+/// It is refused if the bytes are no claim, if so many classes do not suffice, or all that 4 MiB
+/// have room for, and for want of memory.
 pub fn automaton_of(alloc: Global, claim: &[u8], most: u32) -> Result<Automaton, Refusal>
     ensures { MatchResult result (Made claim.now most) (Refused claim.now most) }
 {

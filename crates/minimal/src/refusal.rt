@@ -5,7 +5,8 @@ ghost use Rattle.minimal.specs.declared.refusal.Refusal.TheVariants.{OutOfMemory
 use std::alloc::{AllocError, AllocFailed};
 use thiserror::Error;
 
-/// Why there is no automaton: the bytes are no claim; more classes than so many would have to be told apart; there was no memory.
+/// Why there is no automaton: the bytes are no claim; more classes than so many would have to be
+/// told apart; there was no memory.
 #[derive(Debug, Drop, Error)]
 pub enum Refusal {
     #[error("no claim")]

@@ -8,7 +8,8 @@ use Rattle.minimize.specs.Pairs.{Interned}
 use Rattle.minimize.specs.Parts.{Parted}
 use Rattle.minimize.proofs.PairsLaws.{pairs_none}
 
--- the classes before q have the numbers of their pairs (old, key), the others their old parts; each number was first given to the class `first`
+-- the classes before q have the numbers of their pairs (old, key), the others their old parts; each
+-- number was first given to the class `first`
 pub record Numbering (m : ℕ) (old key : ℕ → ℕ) (q : ℕ) (new first : ℕ → ℕ) (count : ℕ) (lefts rights index : List ℕ) : Type 0 where
   pub few : count ≤ q
   pub pairs : Numbered m m lefts rights index count

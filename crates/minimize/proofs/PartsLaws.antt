@@ -1,4 +1,5 @@
--- Partitions: how many parts there are, and that a refinement with as many parts is the same partition.
+-- Partitions: how many parts there are, and that a refinement with as many parts is the same
+-- partition.
 use Rattle.std.proofs.Common.{◌≡◌, ℕ, suc, ◌<◌, ◌≤◌, sym, ap, ◌∙◌, arith}
 use native.Mathlib.Decide.{ℕ_discrete}
 use Rattle.automata.proofs.Counting.{pigeon}
@@ -44,7 +45,8 @@ module _ {m : ℕ} {cls first : ℕ → ℕ} {n : ℕ} (p : Partition m cls firs
     pub refined_more : n ≤ o
     refined_more = pigeon n o (λ i. cur (first i)) (λ i h. below (first i) (p.first_below i h)) first_apart
 
-    -- if it has as many, then each class is in the part of the first class of its old part: else that part would have two in it, one too many
+    -- if it has as many, then each class is in the part of the first class of its old part: else
+    -- that part would have two in it, one too many
     refined_first : o ≡ n → (q : ℕ) → q < m → cur q ≡ cur (first (cls q))
     refined_first e q h = elim (ℕ_discrete (cur q) (cur (first (cls q)))) [ yes s ↦ s | no d ↦ absurd (too_many d) ]
       where

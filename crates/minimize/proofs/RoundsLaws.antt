@@ -16,7 +16,8 @@ pub record Coarse (k m : ℕ) (δ : ℕ → ℕ → ℕ) (f : ℕ → Bool) (cls
   pub whole : (p q : ℕ) → p < m → q < m → Alike k δ f p q → cls p ≡ cls q
   pub accepts : (p q : ℕ) → p < m → q < m → cls p ≡ cls q → f p ≡ f q
 
--- cur is cls split by the columns before j: classes are together exactly if they were and each of these columns leads them into one part of cls
+-- cur is cls split by the columns before j: classes are together exactly if they were and each of
+-- these columns leads them into one part of cls
 pub record Refined (m : ℕ) (δ : ℕ → ℕ → ℕ) (cls : ℕ → ℕ) (j : ℕ) (cur : ℕ → ℕ) : Type 0 where
   pub same : (p q : ℕ) → p < m → q < m → cls p ≡ cls q → ((a : ℕ) → a < j → cls (δ p a) ≡ cls (δ q a)) → cur p ≡ cur q
   pub old : (p q : ℕ) → p < m → q < m → cur p ≡ cur q → cls p ≡ cls q
@@ -100,7 +101,8 @@ module _ {k m : ℕ} {δ : ℕ → ℕ → ℕ} {f : ℕ → Bool} where
           accepts = λ q s hq hs e. c.accepts q s hq hs (refined_column.old q s hq hs e);
         }
 
-      -- a column that leads every class where an earlier one does tells apart nothing that is not told apart yet
+      -- a column that leads every class where an earlier one does tells apart nothing that is not
+      -- told apart yet
       pub refined_skip : {cur : ℕ → ℕ} {j : ℕ} → Refined m δ cls j cur → Repeat m δ j → Refined m δ cls (j + 1) cur
       refined_skip {j = j} r s = record {
         same = λ p q hp hq e g. r.same p q hp hq e (λ a l. g a (omega arith));

@@ -6,7 +6,8 @@ use Rattle.tables.specs.View.{moves, accepting}
 use Rattle.tables.specs.declared.cells.WordTable.{WordTable}
 use Rattle.tables.specs.declared.sheet.Sheet.{Sheet}
 
--- cls has the part of each class of the table, firsts the first class of each of the n parts; a part is the classes that are alike
+-- cls has the part of each class of the table, firsts the first class of each of the n parts; a
+-- part is the classes that are alike
 pub record Alike (t : WordTable) (cls firsts : List ℕ) (n : ℕ) : Type 0 where
   pub joined : Joined t.sets t.table.classes (moves t.table) (accepting t.table) (λ q. slice_index cls q) (λ i. slice_index firsts i) n
   pub few : n ≤ t.table.classes

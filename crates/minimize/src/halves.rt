@@ -8,16 +8,20 @@ use splitting::scratch::Scratch;
 use splitting::split::split;
 use tables::cells::{Table, WordTable};
 
-// Whether the table is large, and so many words hold what splitting needs: two lists of its entries, and three words for each class.
+// Whether the table is large, and so many words hold what splitting needs: two lists of its
+// entries, and three words for each class.
 pub fn splits(t: Table, index: &[u32]) -> bool
     ensures { result ≡ true → 2 * (t.entry.classes * t.entry.width) + 3 * t.entry.classes ≤ length index.now }
 {
     t.classes >= 16 && index.len() >= 2 * (t.classes * t.width) + 3 * t.classes
 }
 
-// Parts the classes into those that are alike, as join does. The parts, numbered as they came, are numbered again by their first classes: by column 0, which splits none of them.
-// Splitting writes the parts to cls, and takes as scratch, each of a word for a class: anew, lefts, rights and firsts, and what is cut from index: two lists of a word for each entry of the table,
-// three words for each class, and the rest for the columns that repeat an earlier one, as many of them as fit.
+// Parts the classes into those that are alike, as join does. The parts, numbered as they came, are
+// numbered again by their first classes: by column 0, which splits none of them.
+// Splitting writes the parts to cls, and takes as scratch, each of a word for a class: anew, lefts,
+// rights and firsts, and what is cut from index: two lists of a word for each entry of the table,
+// three words for each class, and the rest for the columns that repeat an earlier one, as many of
+// them as fit.
 pub fn join_by_splitting(t: WordTable, parts: &mut Parts) -> usize
     requires some { 0 < t.table.classes }
     requires few { t.table.classes < 2 ^ 32 }

@@ -1,8 +1,12 @@
 // The classes of a table that are alike.
 //
-// Two classes are alike if no word tells them apart. They are found by splitting parts: the first parts are by acceptance, and a part is split where a column leads its classes into different parts.
-// Tables of 16 classes and more are split by one part after the other, by the smaller half (Hopcroft 1971), where the scratch has room for the lists that this takes. Smaller ones are split
-// in rounds (Moore 1956), which need no lists. Both find the same parts, and number them in the same way.
+// Two classes are alike if no word tells them apart. They are found by splitting parts: the first
+// parts are by acceptance, and a part is split where a column leads its classes into different
+// parts.
+// Tables of 16 classes and more are split by one part after the other, by the smaller half
+// (Hopcroft 1971), where the scratch has room for the lists that this takes. Smaller ones are split
+// in rounds (Moore 1956), which need no lists. Both find the same parts, and number them in the
+// same way.
 ghost use Rattle.std.specs.Prelude.{◌≡◌, ◌^◌, ◌<◌, ◌≤◌};
 ghost use Rattle.minimize.specs.Join.{Alike};
 
@@ -11,7 +15,8 @@ use crate::memory::Parts;
 use crate::rounds::join_by_rounds;
 use tables::cells::WordTable;
 
-/// Parts the classes into those that are alike: `cls` gets the part of each class, `firsts` the first class of each part, and the number of parts is returned.
+/// Parts the classes into those that are alike: `cls` gets the part of each class, `firsts` the
+/// first class of each part, and the number of parts is returned.
 /// The parts are numbered in the order of their first classes, so class 0 is in part 0.
 pub fn join(t: WordTable, parts: &mut Parts) -> usize
     requires some { 0 < t.table.classes }

@@ -1,9 +1,11 @@
 // Memory in which the classes of a table are parted.
 ghost use Rattle.std.specs.Prelude.{◌≡◌, ◌*◌, ◌^◌, ◌<◌, ◌≤◌, length};
 
-/// For tables of at most `most` classes: the part of each class and the first class of each part, the part of each class as it is split anew, and the pairs of
-/// parts that this numbers, with a word of `index` for each pair. What it held before does not matter. The more words the index has beyond these, the faster
-/// large tables are parted: from 2 * (classes * columns) + 3 * classes on they are split by the smaller half.
+/// For tables of at most `most` classes: the part of each class and the first class of each part,
+/// the part of each class as it is split anew, and the pairs of parts that this numbers, with a
+/// word of `index` for each pair. What it held before does not matter. The more words the index has
+/// beyond these, the faster large tables are parted: from 2 * (classes * columns) + 3 * classes on
+/// they are split by the smaller half.
 #[derive(Drop)]
 pub struct Parts<'m> {
     pub most: usize,

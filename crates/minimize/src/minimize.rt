@@ -8,8 +8,8 @@ use crate::quotient::quotient;
 use tables::cells::WordTable;
 use tables::sheet::Sheet;
 
-/// Joins the classes that are alike and writes the joined table on the sheet, class i of it the part i: how many classes it has, or that they are more than the
-/// sheet has room for.
+/// Joins the classes that are alike and writes the joined table on the sheet, class i of it the
+/// part i: how many classes it has, or that they are more than the sheet has room for.
 pub fn minimize(t: WordTable, parts: &mut Parts, sheet: &mut Sheet) -> Option<usize>
     requires some { 0 < t.table.classes }
     requires few { t.table.classes < 2 ^ 32 }

@@ -10,7 +10,8 @@ use crate::pairs::intern;
 use tables::cells::{Class, Table};
 
 // The first partition: the classes that accept, and those that do not. Class 0 is in part 0.
-// Invariant: a class before q is in part 0 if it accepts as class 0 does and else in part 1, and firsts has the first class of each part that has one.
+// Invariant: a class before q is in part 0 if it accepts as class 0 does and else in part 1, and
+// firsts has the first class of each part that has one.
 pub fn by_acceptance(t: Table, cls: &mut [u32], firsts: &mut [u32]) -> usize
     requires some { 0 < t.classes }
     requires few { t.classes < 2 ^ 32 }
@@ -43,9 +44,12 @@ pub struct Column<'a> {
     ghost within: { number < table.width },
 }
 
-// Splits the parts of `anew` by one column: classes stay together if they were in one part and the column leads them into one part of `cls`.
-// The new number of a class is the number of its pair (its part in anew, the part in cls to which the column leads), the pairs numbered in the order of the classes.
-// Invariant: the classes before q have the numbers of their pairs, the others their old parts. One pass over the classes, a constant number of steps each.
+// Splits the parts of `anew` by one column: classes stay together if they were in one part and the
+// column leads them into one part of `cls`.
+// The new number of a class is the number of its pair (its part in anew, the part in cls to which
+// the column leads), the pairs numbered in the order of the classes.
+// Invariant: the classes before q have the numbers of their pairs, the others their old parts. One
+// pass over the classes, a constant number of steps each.
 // Scratch: lefts and rights a word for each class, index a word for each pair of classes.
 pub fn renumber(
     column: Column,

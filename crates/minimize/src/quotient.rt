@@ -6,7 +6,8 @@ ghost use Rattle.minimize.specs.Quotient.{Quotient};
 
 use tables::cells::{Class, Table, put};
 
-// Writes row `to`, in memory for `most` rows: where class `from` leads, each class by its part. The other rows stay.
+// Writes row `to`, in memory for `most` rows: where class `from` leads, each class by its part. The
+// other rows stay.
 // Invariant: the columns before a are written.
 fn quotient_row(t: Table, cls: &[u32], from: Class, rows: &mut [u32], most: usize, to: Class)
     requires narrow { t.width < 2 ^ 32 }

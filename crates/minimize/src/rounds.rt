@@ -1,8 +1,14 @@
-// Parts split in rounds: in each by every column, one after the other, but for those that lead every class where an earlier one does.
+// Parts split in rounds: in each by every column, one after the other, but for those that lead
+// every class where an earlier one does.
 //
-// A round splits `cls` by every column, one after the other, into `anew`: after the columns before j, classes are together in anew exactly if they are together in cls and each of these columns leads them into one part of cls.
-// Never does a round part classes that are alike, since what a column makes of them is alike too. A round that has made no part more has changed nothing: then every column leads each part into one part, and so classes of one part are alike.
-// Every other round has made a part more, so there are at most as many rounds as classes, and each takes as many steps as the table has entries: no two classes are ever compared.
+// A round splits `cls` by every column, one after the other, into `anew`: after the columns before
+// j, classes are together in anew exactly if they are together in cls and each of these columns
+// leads them into one part of cls.
+// Never does a round part classes that are alike, since what a column makes of them is alike too. A
+// round that has made no part more has changed nothing: then every column leads each part into one
+// part, and so classes of one part are alike.
+// Every other round has made a part more, so there are at most as many rounds as classes, and each
+// takes as many steps as the table has entries: no two classes are ever compared.
 ghost use Rattle.std.specs.Prelude.{◌^◌, ◌<◌, ◌≤◌, length};
 ghost use Rattle.minimize.specs.Join.{Alike};
 ghost use Rattle.minimize.specs.Pairs.{Room};
@@ -12,8 +18,10 @@ use splitting::repeats::{is_marked, mark_repeats};
 use tables::cells::WordTable;
 
 // Parts the classes into those that are alike, as join does, which few rounds do fast.
-// What index holds beyond the pairs of classes marks columns that repeat an earlier one, as many of them as fit.
-// Invariant of the rounds: anew is cls, it never parts classes that are alike, and classes of one part accept alike. Of the columns: the same of anew, which is cls split by the columns so far.
+// What index holds beyond the pairs of classes marks columns that repeat an earlier one, as many of
+// them as fit.
+// Invariant of the rounds: anew is cls, it never parts classes that are alike, and classes of one
+// part accept alike. Of the columns: the same of anew, which is cls split by the columns so far.
 // The rounds are left where one has changed nothing, or as soon as every class is alone.
 pub fn join_by_rounds(
     t: WordTable,

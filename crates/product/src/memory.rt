@@ -3,7 +3,8 @@ ghost use Rattle.std.specs.Prelude.{◌≡◌, ◌+◌, ◌*◌, ◌^◌, ◌<�
 
 use tables::cells::WordTable;
 
-/// The pairs of classes of two tables over words of the same sets. Pair number i is (lefts[i], rights[i]), and `index` has a word for every pair of classes.
+/// The pairs of classes of two tables over words of the same sets. Pair number i is (lefts[i],
+/// rights[i]), and `index` has a word for every pair of classes.
 /// There is room for one pair more than `most`; what the memory held before does not matter.
 #[derive(Drop)]
 pub struct Pairs<'a, 'b, 'm> {

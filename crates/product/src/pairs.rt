@@ -1,5 +1,6 @@
-// The product of two tables: a class for each pair of classes that a word leads to. A search that starts at the pair of starts finds them
-// (`worklist::explore`); whether a pair was found before takes one look-up.
+// The product of two tables: a class for each pair of classes that a word leads to. A search that
+// starts at the pair of starts finds them (`worklist::explore`); whether a pair was found before
+// takes one look-up.
 ghost use Rattle.std.specs.Prelude.{◌≡◌, ◌<◌, ◌≤◌, MatchOption};
 ghost use Rattle.automata.specs.Product.{Pair};
 ghost use Rattle.worklist.specs.Search.{Tabled, Excess};
@@ -62,7 +63,8 @@ impl Frontier for Pairs<'_, '_, '_> {
     }
 }
 
-/// The product of two tables, written on the sheet: how many classes it has, or that they are more than the sheet has room for.
+/// The product of two tables, written on the sheet: how many classes it has, or that they are more
+/// than the sheet has room for.
 /// The pairs need room for as many. What sheet and pairs held before does not matter.
 pub fn product(pairs: &mut Pairs, sheet: &mut Sheet) -> Option<usize>
     requires sets { pairs.old.left.sets ≡ sheet.old.shape.sets }

@@ -1,4 +1,5 @@
--- The steps of a subset construction: the set that follows a set is the one that the definition says, a column with bit x leads where it leads without, and what each step of the search keeps.
+-- The steps of a subset construction: the set that follows a set is the one that the definition
+-- says, a column with bit x leads where it leads without, and what each step of the search keeps.
 use Rattle.std.proofs.Common.{◌≡◌, ℕ, zero, suc, ◌/◌, ◌<◌, ◌≤◌, Bool, true, false, ◌&&◌, ◌||◌, eqb, ◌⊎◌, ◌↔◌, Option, Some, Decides, sym, refl, ap, ◌∙◌, ap₂, inl, inr, arith}
 use mathlib.Core.Path.{fun_ext}
 use Rattle.std.proofs.lemmas.Bool.{or_cases, or_left, or_right}

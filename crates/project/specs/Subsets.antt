@@ -1,4 +1,5 @@
--- The subset construction: the automaton of the sets of live classes, and a memory in which they are found.
+-- The subset construction: the automaton of the sets of live classes, and a memory in which they
+-- are found.
 use Rattle.std.specs.Prelude.{ℕ, ◌+◌, ◌<◌, Bool, List, Option}
 use Rattle.automata.specs.Subsets.{step_set, start_set, accepts_set}
 use Rattle.bitsets.specs.Bitrows.{member, Below}

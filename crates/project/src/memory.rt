@@ -3,8 +3,9 @@ ghost use Rattle.std.specs.Prelude.{◌+◌, ◌*◌, ◌<◌, ◌≤◌, length
 
 use crate::projection::Projection;
 
-/// The sets of live classes of a projection: row i of `sets` is set i, and a row is found again by hashing. There is room for one set more than `most`, best
-/// with as many heads; what the memory held before does not matter.
+/// The sets of live classes of a projection: row i of `sets` is set i, and a row is found again by
+/// hashing. There is room for one set more than `most`, best with as many heads; what the memory
+/// held before does not matter.
 #[derive(Drop)]
 pub struct Sets<'a, 'b, 'm> {
     pub part: Projection<'a, 'b>,

@@ -4,7 +4,8 @@ ghost use Rattle.std.specs.Prelude.{◌*◌, ◌^◌, ◌<◌, ◌≤◌, length
 use tables::cells::WordTable;
 use words::bits::Set;
 
-/// A table and its dead class, if there is one; the set x that is left out of the columns; and the classes that are completed beyond the end of a word, by 1.
+/// A table and its dead class, if there is one; the set x that is left out of the columns; and the
+/// classes that are completed beyond the end of a word, by 1.
 /// A set of its classes takes w words.
 #[derive(Clone, Copy)]
 pub struct Projection<'a, 'b> {

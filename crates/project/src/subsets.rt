@@ -1,8 +1,10 @@
-// The subset construction: the sets of live classes that are reached when, column by column, both values of bit x are allowed.
+// The subset construction: the sets of live classes that are reached when, column by column, both
+// values of bit x are allowed.
 //
-// A search from the set of the start on finds them (`worklist::explore`). A set is a row of bits; the set that follows is written behind the last one, is
-// looked for among those that were found by hashing, and stays there if it is new. A column with bit x leads wherever the column without it leads, so its cell
-// is copied (`twin`), and no set is worked out twice.
+// A search from the set of the start on finds them (`worklist::explore`). A set is a row of bits;
+// the set that follows is written behind the last one, is looked for among those that were found by
+// hashing, and stays there if it is new. A column with bit x leads wherever the column without it
+// leads, so its cell is copied (`twin`), and no set is worked out twice.
 ghost use Rattle.std.specs.Prelude.{◌≡◌, ℕ, ◌+◌, ◌*◌, ◌<◌, ◌≤◌, false, Bool, length, MatchOption};
 ghost use Rattle.words.specs.Words.{bit};
 ghost use Rattle.worklist.specs.Search.{Tabled, Excess};
@@ -86,7 +88,8 @@ impl Frontier for Sets<'_, '_, '_> {
     }
 }
 
-/// The table of the sets that are reached, written on the sheet: how many they are, or that they are more than the sheet has room for.
+/// The table of the sets that are reached, written on the sheet: how many they are, or that they
+/// are more than the sheet has room for.
 /// `sets` needs room for as many. What sheet and sets held before does not matter.
 pub fn subsets(sets: &mut Sets, sheet: &mut Sheet) -> Option<usize>
     requires sets { sets.old.part.t.sets ≡ sheet.old.shape.sets }

@@ -1,4 +1,5 @@
-// The set of the live classes to which two columns lead from the classes of a set. Sets are rows of w words, one behind the other in one slice.
+// The set of the live classes to which two columns lead from the classes of a set. Sets are rows of
+// w words, one behind the other in one slice.
 ghost use Rattle.std.specs.Prelude.{◌≡◌, ℕ, ◌+◌, ◌*◌, ◌^◌, ◌<◌, ◌≤◌, length, ◌≢◌, Some};
 ghost use Rattle.tables.specs.Cells.{entry};
 ghost use Rattle.tables.specs.View.{moves};
@@ -33,7 +34,8 @@ fn follow_class(p: &Projection, row: &mut [u32], q: Class, a: u32, b: u32)
     put_live(row, t.next(q, b), p.dead);
 }
 
-// The same from each of the classes from + y, y the bits of a word: shifts the word down until no bit is left.
+// The same from each of the classes from + y, y the bits of a word: shifts the word down until no
+// bit is left.
 fn follow_word(p: &Projection, row: &mut [u32], word: u32, from: usize, a: u32, b: u32)
     requires inside { BitsBelow p.now.t.table.classes from word }
     requires first { a < p.now.t.table.width }
@@ -53,7 +55,8 @@ fn follow_word(p: &Projection, row: &mut [u32], word: u32, from: usize, a: u32, 
     }
 }
 
-// Writes the set of the live classes to which columns a and b lead from the classes of row i into row `to`; the rows before it stay.
+// Writes the set of the live classes to which columns a and b lead from the classes of row i into
+// row `to`; the rows before it stay.
 pub fn follow(p: &Projection, sets: &mut [u32], i: usize, to: usize, a: u32, b: u32)
     requires order { i < to }
     requires inside { Below p.now.t.table.classes (member sets.old p.now.w i) }

@@ -1,4 +1,5 @@
--- From a table of a language, its classes in order: the first word of the language and the first word that is not in it, or that there is none.
+-- From a table of a language, its classes in order: the first word of the language and the first
+-- word that is not in it, or that there is none.
 use Rattle.std.proofs.Common.{ℕ, ◌<◌, Bool, true, false, not, ap, ◌∙◌, sym}
 use mathlib.Core.Bool.{false≢true}
 use Rattle.words.specs.Languages.{Lang}

@@ -9,7 +9,8 @@ use Rattle.automata.proofs.FirstWords.{all_rows, next_cell}
 use Rattle.shortest.specs.Spell.{word}
 use Rattle.shortest.proofs.SpellLaws.{word_start, word_step}
 
--- words ws end with the steps of m classes, and the cells before row i, column a, lead to these classes
+-- words ws end with the steps of m classes, and the cells before row i, column a, lead to these
+-- classes
 pub record Ended (k n : ℕ) (δ : ℕ → ℕ → ℕ) (ws : ℕ → Word) (m : ℕ) (prev via : List ℕ) (i a : ℕ) : Type 0 where
   pub seen : (p b : ℕ) → Before p b i a → p < n → b < 2 ^ k → δ p b < m
   pub last : (j : ℕ) → 0 < j → j < m → ws j ≡ ws (get_or prev j 0) ++ (get_or via j 0 ∷ [])

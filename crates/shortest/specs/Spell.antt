@@ -1,4 +1,5 @@
--- The first word of a class, read off two lists: prev, the class to which it leads without its last column, and via, that column.
+-- The first word of a class, read off two lists: prev, the class to which it leads without its last
+-- column, and via, that column.
 use Rattle.std.specs.Prelude.{ℕ, zero, suc, ◌<◌, ◌≤◌, List, [], ◌∷◌, ◌++◌, slice_index}
 use Rattle.words.specs.Words.{Word}
 
@@ -8,7 +9,8 @@ last_columns prev via zero j = []
 last_columns prev via (suc n) zero = []
 last_columns prev via (suc n) (suc j) = last_columns prev via n (slice_index prev (suc j)) ++ (slice_index via (suc j) ∷ [])
 
--- the word of class j: class 0 has the empty word, and numbers fall on the way back, so j columns are all
+-- the word of class j: class 0 has the empty word, and numbers fall on the way back, so j columns
+-- are all
 unfoldable pub word : List ℕ → List ℕ → ℕ → Word
 word prev via j = last_columns prev via j j
 

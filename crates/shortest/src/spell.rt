@@ -1,8 +1,10 @@
-// The word by which a class was found, read off backwards: from its number to the one from which it was found, and so on to number 0, which has the empty word. Numbers fall on the way.
+// The word by which a class was found, read off backwards: from its number to the one from which it
+// was found, and so on to number 0, which has the empty word. Numbers fall on the way.
 ghost use Rattle.std.specs.Prelude.{◌≡◌, ℕ, ◌<◌, ◌≤◌, List, length};
 ghost use Rattle.shortest.specs.Spell.{word, Falls};
 
-// How long the word of number j is: the steps back from j to 0. On the way the steps done and the word of the number reached are together as long as the word of j.
+// How long the word of number j is: the steps back from j to 0. On the way the steps done and the
+// word of the number reached are together as long as the word of j.
 pub fn word_length(prev: &[u32], j: usize) -> usize
     requires room { j < length prev.now }
     requires falls { Falls prev.now j }
@@ -18,7 +20,8 @@ pub fn word_length(prev: &[u32], j: usize) -> usize
     steps
 }
 
-// Writes the word of number j into memory of its length, the last column first: at each step the word of the number reached, followed by what is written, is the word of j.
+// Writes the word of number j into memory of its length, the last column first: at each step the
+// word of the number reached, followed by what is written, is the word of j.
 pub fn write_word(prev: &[u32], via: &[u32], j: usize, out: &mut [u32])
     requires prev { j < length prev.now }
     requires via { j < length via.now }

@@ -1,7 +1,10 @@
-// The last steps of the first words of a table's classes, which are numbered in the order of these words.
-// Row by row, columns rising, a class is met first at the cell by which its first word ends, and the next class that is met is always the next number. So one pass finds, for each class, the
+// The last steps of the first words of a table's classes, which are numbered in the order of these
+// words.
+// Row by row, columns rising, a class is met first at the cell by which its first word ends, and
+// the next class that is met is always the next number. So one pass finds, for each class, the
 // class before and the column; nothing is cleared before it.
-// Invariant, at column a of row i: the cells before lead to the classes noted, and prev and via have the last steps of the first words of these.
+// Invariant, at column a of row i: the cells before lead to the classes noted, and prev and via
+// have the last steps of the first words of these.
 ghost use Rattle.std.specs.Prelude.{◌≡◌, ℕ, ◌^◌, ◌<◌, ◌≤◌, length, slice_index};
 ghost use Rattle.words.specs.Words.{Word};
 ghost use Rattle.automata.specs.Search.{Ordered, Ranked};
@@ -10,8 +13,11 @@ ghost use Rattle.shortest.specs.Spell.{word};
 
 use tables::cells::{Class, WordTable};
 
-/// Notes for each class, from class 1 on, the class from which it is met first, a lower one, and the column that leads there, until class `last` is noted; how many classes are noted, with class 0.
-/// Of a table whose classes are in order all up to `last` are, and these are the last steps of their first words.
+/// Notes for each class, from class 1 on, the class from which it is met first, a lower one, and
+/// the column that leads there, until class `last` is noted; how many classes are noted, with class
+/// 0.
+/// Of a table whose classes are in order all up to `last` are, and these are the last steps of
+/// their first words.
 pub fn steps(t: WordTable, last: usize, prev: &mut [u32], via: &mut [u32]) -> usize
     requires some { 0 < t.table.classes }
     requires few { t.table.classes < 2 ^ 32 }

@@ -1,4 +1,5 @@
--- Parts cut where they are marked: one part, all that are touched, and that this is one step of splitting.
+-- Parts cut where they are marked: one part, all that are touched, and that this is one step of
+-- splitting.
 use Rattle.std.proofs.Common.{◌≡◌, ℕ, suc, ◌+◌, ◌<◌, ◌≤◌, ◌⊎◌, ◌↔◌, List, length, get_or, set, sym, refl, ap, ◌∙◌, subst, inl, inr, arith}
 use native.Mathlib.Decide.{ℕ_discrete, dec_lt}
 use Rattle.std.proofs.lemmas.List.{get_or-set_same, get_or-set_other, length-set}
@@ -120,7 +121,8 @@ module _ {m n : ℕ} {order place part begin end cut : List ℕ} (a : Arranged m
       clean = λ d h e. elim e [ inl s ↦ rw s here | inr s ↦ (let z : ⊥ = omega arith in absurd z) ];
     }
 
-  -- the part is cut in two: part n gets the places from nf to nt, and part c keeps those from of to ot
+  -- the part is cut in two: part n gets the places from nf to nt, and part c keeps those from of to
+  -- ot
   module _ (l : get_or begin c 0 < get_or cut c 0) (r : get_or cut c 0 < get_or end c 0) {nf nt of ot : ℕ} (halved : Halved (get_or begin c 0) (get_or cut c 0) (get_or end c 0) nf nt of ot)
       (part' begin' end' cut' : List ℕ) (part_fits : m ≤ length part') (begin_fits : m ≤ length begin') (end_fits : m ≤ length end') (cut_fits : m ≤ length cut')
       (begin_new : get_or begin' n 0 ≡ nf) (end_new : get_or end' n 0 ≡ nt) (cut_new : get_or cut' n 0 ≡ nf)

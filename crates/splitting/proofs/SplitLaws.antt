@@ -19,7 +19,8 @@ bool_same true b f g = sym (f refl)
 bool_same false true f g = g refl
 bool_same false false f g = refl
 
--- classes that were marked are cut from those that were not, and of the pieces of a part the new one waits
+-- classes that were marked are cut from those that were not, and of the pieces of a part the new
+-- one waits
 module _ {m n n' : ℕ} {Also : ℕ → Type 0} {order place part begin end cut order' place' cut' touched' part'' begin'' end'' cut'' : List ℕ} {tail' : ℕ} (a : Arranged m n order place part begin end cut) (u : Unmarked n begin cut)
     (g : Grown m n Also place part begin end cut order' place' cut' touched' tail') (k : Cutting m n order' place' part begin end cut' n' part'' begin'' end'' cut'') (w : Unmarked n' begin'' cut'') where
   module _ (Y : ℕ → Bool) (done : ℕ) (is : (q : ℕ) → q < m → (Y q ≡ true) ↔ Also q) (few : done ≤ n) where

@@ -7,7 +7,8 @@ pub record Halved (from at to new_from new_to old_from old_to : ℕ) : Type 0 wh
   pub pieces : ((new_from ≡ from) × (new_to ≡ at) × (old_from ≡ at) × (old_to ≡ to)) ⊎ ((new_from ≡ at) × (new_to ≡ to) × (old_from ≡ from) × (old_to ≡ at))
   pub smaller : new_to - new_from ≤ old_to - old_from
 
--- some parts are cut, and their classes not marked any more: what told two classes apart, their parts and marks, tells them apart now, and nothing else does.
+-- some parts are cut, and their classes not marked any more: what told two classes apart, their
+-- parts and marks, tells them apart now, and nothing else does.
 -- A class keeps its part or gets a new one.
 pub record Recut (m n : ℕ) (part : ℕ → ℕ) (M : ℕ → Type 0) (part' : ℕ → ℕ) (M' : ℕ → Type 0) : Type 0 where
   pub same : (p q : ℕ) → p < m → q < m → part p ≡ part q → M p ↔ M q → (part' p ≡ part' q) × (M' p ↔ M' q)

@@ -1,4 +1,5 @@
--- What the other files say of lists, said of what is lent: where classes stand, their parts, and how far each part is marked.
+-- What the other files say of lists, said of what is lent: where classes stand, their parts, and
+-- how far each part is marked.
 use Rattle.std.specs.Prelude.{ℕ, List}
 use Rattle.tables.specs.declared.cells.WordTable.{WordTable}
 use Rattle.tables.specs.View.{moves, accepting}

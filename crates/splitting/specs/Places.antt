@@ -1,5 +1,6 @@
--- The parts of m classes in lent words: the classes in `order`, part by part, and the `place` of each there; its `part`; where each part begins and ends,
--- and how far it is marked: of each part the classes before `cut`.
+-- The parts of m classes in lent words: the classes in `order`, part by part, and the `place` of
+-- each there; its `part`; where each part begins and ends, and how far it is marked: of each part
+-- the classes before `cut`.
 use Rattle.std.specs.Prelude.{◌≡◌, ℕ, ◌-◌, ◌<◌, ◌≤◌, ◌≢◌, List, length, slice_index, ◌⊎◌}
 
 -- every class stands at its place
@@ -17,7 +18,8 @@ pub record Swapped (m p q : ℕ) (place place' : List ℕ) : Type 0 where
   pub there : slice_index place' q ≡ slice_index place p
   pub other : (x : ℕ) → x < m → x ≢ p → x ≢ q → slice_index place' x ≡ slice_index place x
 
--- n parts: the classes of each are those whose places are from its begin to its end, and there are some
+-- n parts: the classes of each are those whose places are from its begin to its end, and there are
+-- some
 pub record Parts (m n : ℕ) (place part begin end : List ℕ) : Type 0 where
   pub part_fits : m ≤ length part
   pub begin_fits : m ≤ length begin
@@ -66,7 +68,8 @@ pub record Grown (m n : ℕ) (Also : ℕ → Type 0) (place part begin end cut :
   pub new : (q : ℕ) → q < m → Also q → Marked place' part cut' q
   pub only : (q : ℕ) → q < m → Marked place' part cut' q → Marked place part cut q ⊎ Also q
 
--- the list of class r has been walked down to e: e stands for a class on it or ends it, and those from e on have been marked
+-- the list of class r has been walked down to e: e stands for a class on it or ends it, and those
+-- from e on have been marked
 pub record Walked (m n : ℕ) (to : ℕ → ℕ) (r e : ℕ) (place part begin end cut : List ℕ) (order' place' cut' touched' : List ℕ) (tail' : ℕ) : Type 0 where
   pub below : e ≤ m
   pub goes : 0 < e → to (e - 1) ≡ r

@@ -1,7 +1,8 @@
 // For each class and column the classes that go to it by that column, as a linked list.
 //
-// The head of class r and column a stands for the last of the classes that go to r by a, the link of class q and column a for the one before q on its list,
-// where q + 1 stands for class q and 0 ends the list: so the numbers fall along a list.
+// The head of class r and column a stands for the last of the classes that go to r by a, the link
+// of class q and column a for the one before q on its list, where q + 1 stands for class q and 0
+// ends the list: so the numbers fall along a list.
 ghost use Rattle.std.specs.Prelude.{◌≡◌, ℕ, ◌+◌, ◌*◌, ◌^◌, ◌<◌, ◌≤◌, ◌≢◌, length, slice_index};
 ghost use Rattle.tables.specs.Cells.{entry, put_entry};
 ghost use Rattle.tables.specs.View.{moves};
@@ -24,7 +25,8 @@ pub struct Column<'a> {
     ghost listed: { Comers table.classes table.classes (λ q. moves table q number) (λ r. entry heads.now table.width r number) (λ q. entry links.now table.width q number) },
 }
 
-// A table with its columns that repeat an earlier one, marked, and the lists of who comes to each class by the others.
+// A table with its columns that repeat an earlier one, marked, and the lists of who comes to each
+// class by the others.
 #[derive(Clone, Copy)]
 pub struct Lists<'a> {
     pub table: WordTable<'a>,
@@ -63,7 +65,8 @@ fn list_entry(t: Table, q: Class, a: u32, heads: &mut [u32], links: &mut [u32])
     put(heads, t.classes, t.width, r, a, Class(q.0 + 1));
 }
 
-// Puts class q before the lists of the classes to which it goes, by the columns that are not marked.
+// Puts class q before the lists of the classes to which it goes, by the columns that are not
+// marked.
 // Invariant: it is on those of the columns before a.
 fn list_class(t: Table, q: Class, repeats: &[u32], heads: &mut [u32], links: &mut [u32])
     requires few { t.classes < 2 ^ 32 }

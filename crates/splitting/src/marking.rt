@@ -15,7 +15,8 @@ pub struct Splitter<'a> {
     ghost fits: { size ≤ length members.now },
 }
 
-// Marks class p, if it is not marked yet: it changes places with the first class of its part that is not. A part of which no class was marked is put at the tail of `touched`; the new tail.
+// Marks class p, if it is not marked yet: it changes places with the first class of its part that
+// is not. A part of which no class was marked is put at the tail of `touched`; the new tail.
 fn mark(
     classes: usize,
     p: Class,

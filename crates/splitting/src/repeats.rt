@@ -1,4 +1,5 @@
-// Columns that lead every class where an earlier one does: whatever such a column would tell apart, the earlier one has.
+// Columns that lead every class where an earlier one does: whatever such a column would tell apart,
+// the earlier one has.
 ghost use Rattle.std.specs.Prelude.{◌≡◌, ℕ, ◌^◌, ◌<◌, true, false, ◌≢◌, slice_index};
 ghost use Rattle.tables.specs.View.{moves};
 ghost use Rattle.splitting.specs.Repeats.{Repeat, Repeats};
@@ -23,7 +24,8 @@ fn lead_alike(t: Table, a: u32, b: u32) -> bool
     true
 }
 
-// Whether column a repeats a column that has one set less. (Others may lead alike too: those are not looked for.)
+// Whether column a repeats a column that has one set less. (Others may lead alike too: those are
+// not looked for.)
 fn is_repeat(t: WordTable, a: u32) -> bool
     requires few { t.table.classes < 2 ^ 32 }
     requires column { a < t.table.width }

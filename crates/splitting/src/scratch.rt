@@ -1,6 +1,7 @@
 // Memory in which classes are parted.
 
-// For m classes: m words each for order to members; for heads and links as many as the table has entries; and for repeats any number, of which as many are used as the table has columns.
+// For m classes: m words each for order to members; for heads and links as many as the table has
+// entries; and for repeats any number, of which as many are used as the table has columns.
 // What the words held before does not matter.
 #[derive(Drop)]
 pub struct Scratch<'a> {

@@ -1,32 +1,47 @@
 // The classes of a table parted into those that are alike, by the smaller half (Hopcroft 1971).
 //
-// What is looked for is the coarsest partition of the classes that keeps apart what accepts from what does not, and is stable: each column leads the classes
-// of one part into one part. Its parts are exactly the classes that are alike. A partition is kept that is coarser than that one, or equal: at first it has
-// two parts, the classes that accept and the others, and parts are only ever cut, each time because a column leads their classes into different parts.
+// What is looked for is the coarsest partition of the classes that keeps apart what accepts from
+// what does not, and is stable: each column leads the classes of one part into one part. Its parts
+// are exactly the classes that are alike. A partition is kept that is coarser than that one, or
+// equal: at first it has two parts, the classes that accept and the others, and parts are only ever
+// cut, each time because a column leads their classes into different parts.
 //
-// A part that waits is taken as the splitter. For each column, every part of which the column leads some classes into the splitter, but not all, is cut into
-// these two pieces. Which classes those are is read off lists of who comes to each class of the splitter, so that no class is looked at that does not go there.
+// A part that waits is taken as the splitter. For each column, every part of which the column leads
+// some classes into the splitter, but not all, is cut into these two pieces. Which classes those
+// are is read off lists of who comes to each class of the splitter, so that no class is looked at
+// that does not go there.
 //
-// Why it is right (`Splitting`). Beside the partition in memory there is an older, coarser one that no memory holds: each part that does not wait any more,
-// merged with the waiting parts that came off it. Three facts last from one splitter to the next. Classes that are alike are together, and classes that are
-// together accept alike. Each column leads the classes of one part into one older part: by the older parts nothing is left to cut. And of the parts that make
-// up an older part all but at most one wait. A splitter that has been taken becomes an older part of its own: by each column all classes of a part go into it
-// or none does, and so all into what is left of its older part or none (`Splits` says this column by column). Once no part waits, each older part is one part,
-// and so the partition is stable. It may be left before that where every class is alone, since then nothing can be cut.
+// Why it is right (`Splitting`). Beside the partition in memory there is an older, coarser one that
+// no memory holds: each part that does not wait any more, merged with the waiting parts that came
+// off it. Three facts last from one splitter to the next. Classes that are alike are together, and
+// classes that are together accept alike. Each column leads the classes of one part into one older
+// part: by the older parts nothing is left to cut. And of the parts that make up an older part all
+// but at most one wait. A splitter that has been taken becomes an older part of its own: by each
+// column all classes of a part go into it or none does, and so all into what is left of its older
+// part or none (`Splits` says this column by column). Once no part waits, each older part is one
+// part, and so the partition is stable. It may be left before that where every class is alone,
+// since then nothing can be cut.
 //
-// Why a new piece waits. Where a part is cut, both pieces lie in its older part. If the part waited, both have to wait; if it did not, it was the one that need
-// not, and one of its pieces has to, no matter which. So the piece with the new number always waits, and the other keeps the number and waits if the part did.
-// Parts are taken in the order of their numbers: those from `done` on are the ones that wait, and neither marks nor a list of them are kept.
+// Why a new piece waits. Where a part is cut, both pieces lie in its older part. If the part
+// waited, both have to wait; if it did not, it was the one that need not, and one of its pieces has
+// to, no matter which. So the piece with the new number always waits, and the other keeps the
+// number and waits if the part did.
+// Parts are taken in the order of their numbers: those from `done` on are the ones that wait, and
+// neither marks nor a list of them are kept.
 //
-// Why by the smaller half. It is the smaller piece that gets the new number. A class that was in a splitter waits again only as part of such a piece, with at
-// most half as many classes as before: so it is in at most log2 m + 1 splitters, where m is the number of classes, and each entry of the table is followed as
-// often. In all that is m * log2 m steps for each column. (No proof counts steps; that the new piece is the smaller is in the contract of `halve`.)
+// Why by the smaller half. It is the smaller piece that gets the new number. A class that was in a
+// splitter waits again only as part of such a piece, with at most half as many classes as before:
+// so it is in at most log2 m + 1 splitters, where m is the number of classes, and each entry of the
+// table is followed as often. In all that is m * log2 m steps for each column. (No proof counts
+// steps; that the new piece is the smaller is in the contract of `halve`.)
 //
-// In memory the classes stand part by part (`Places`, `Parting`), and a class is marked to be cut off by a swap to the front of its part (`Marks`): no step goes
-// over a whole part but for those that write the new number of the smaller piece. Columns that lead every class where an earlier one does are passed over: what
-// they would cut, the earlier one has cut.
+// In memory the classes stand part by part (`Places`, `Parting`), and a class is marked to be cut
+// off by a swap to the front of its part (`Marks`): no step goes over a whole part but for those
+// that write the new number of the smaller piece. Columns that lead every class where an earlier
+// one does are passed over: what they would cut, the earlier one has cut.
 //
-// Splitting pays on tables of some size. Joining takes it from 16 classes on, where its scratch has room for the lists, and else goes over all columns in rounds.
+// Splitting pays on tables of some size. Joining takes it from 16 classes on, where its scratch has
+// room for the lists, and else goes over all columns in rounds.
 ghost use Rattle.std.specs.Prelude.{◌≡◌, ℕ, ◌+◌, ◌*◌, ◌^◌, ◌<◌, ◌≤◌, length, slice_index};
 ghost use Rattle.automata.specs.Joined.{Stable};
 ghost use Rattle.tables.specs.View.{moves, accepting};
@@ -89,7 +104,8 @@ fn split_column(
     cut_touched(classes, tail, places, parting, marks);
 }
 
-// Cuts every part, column by column, by whether the column leads its classes to one of part b, which waits; then b does not wait any more.
+// Cuts every part, column by column, by whether the column leads its classes to one of part b,
+// which waits; then b does not wait any more.
 // Invariant: the parts are cut by the columns before a.
 fn split_by(
     lists: Lists,
@@ -124,7 +140,8 @@ fn split_by(
     }
 }
 
-// Splits by one part after the other, until none waits or every class is alone. At first all parts but part 0 wait.
+// Splits by one part after the other, until none waits or every class is alone. At first all parts
+// but part 0 wait.
 // Invariant: those from `done` on wait.
 fn split_all(
     lists: Lists,
@@ -151,7 +168,8 @@ fn split_all(
     }
 }
 
-// Parts the classes into those that are alike: `part` gets the part of each class. The parts are numbered as they came.
+// Parts the classes into those that are alike: `part` gets the part of each class. The parts are
+// numbered as they came.
 pub fn split(t: WordTable, part: &mut [u32], scratch: &mut Scratch)
     requires some { 0 < t.table.classes }
     requires few { t.table.classes < 2 ^ 32 }

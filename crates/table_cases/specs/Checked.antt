@@ -2,7 +2,8 @@
 use Rattle.std.specs.Prelude.{ℕ, ◌*◌, ◌^◌, ◌<◌, ◌≤◌, List, length}
 use Rattle.tables.specs.Cells.{entry}
 
--- the words have room for so many classes over the columns of k sets, and every entry is the number of a class
+-- the words have room for so many classes over the columns of k sets, and every entry is the number
+-- of a class
 pub record Written (rows accept : List ℕ) (classes k : ℕ) : Type 0 where
   pub narrow : k ≤ 12
   pub some : 0 < classes

@@ -1,4 +1,5 @@
-// A table that is tested as the program runs: that there is room for it, and that every entry is the number of a class.
+// A table that is tested as the program runs: that there is room for it, and that every entry is
+// the number of a class.
 ghost use Rattle.std.specs.Prelude.{◌≡◌, ℕ, ◌*◌, ◌^◌, ◌<◌, ◌≤◌, ◌↔◌, IsTrue, length};
 ghost use Rattle.tables.specs.Cells.{entry};
 ghost use Rattle.table_cases.specs.Checked.{Written};

@@ -9,7 +9,8 @@ use shortest::steps::steps;
 use std::io;
 use tables::cells::Table;
 
-// The first word that the table accepts (`wanted` is true) or does not (false), where the steps of its class are noted.
+// The first word that the table accepts (`wanted` is true) or does not (false), where the steps of
+// its class are noted.
 fn word_case(
     rt: &HostRuntime,
     t: Table,
@@ -39,13 +40,9 @@ fn word_case(
     println!(rt; "first {wanted}, length {n}:{word}")
 }
 
-// From where the classes are met, up to the last, as far as they are in order, and the two first words.
-pub fn steps_case(
-    rt: &HostRuntime,
-    rows: &[u32],
-    accept: &[u32],
-    classes: usize,
-) -> io::Result<()>
+// From where the classes are met, up to the last, as far as they are in order, and the two first
+// words.
+pub fn steps_case(rt: &HostRuntime, rows: &[u32], accept: &[u32], classes: usize) -> io::Result<()>
     requires { (0 < classes) × (classes ≤ 8) }
 {
     if !is_table(rows, accept, classes, 1) {

@@ -23,7 +23,8 @@ use joined::join_case;
 use projected::{beyond_case, subsets_case};
 use std::io;
 
-// Words that are no table: an entry that is the number of no class, too few rows, too few words of acceptance, no class at all.
+// Words that are no table: an entry that is the number of no class, too few rows, too few words of
+// acceptance, no class at all.
 fn refused_case(rt: &HostRuntime) -> io::Result<()> {
     let entry = is_table(&[0, 2, 1, 0], &[1, 0], 2, 1);
     let rows = is_table(&[0, 1, 1], &[1, 0], 2, 1);
@@ -32,7 +33,8 @@ fn refused_case(rt: &HostRuntime) -> io::Result<()> {
     println!(rt; "no tables: {entry} {rows} {accept} {none}")
 }
 
-// Of B and C: C with its dead class, and as if it had none. Of D the three sets {0}, {1} and {0, 1}, where two are allowed and where more are.
+// Of B and C: C with its dead class, and as if it had none. Of D the three sets {0}, {1} and {0,
+// 1}, where two are allowed and where more are.
 fn project_cases(rt: &HostRuntime) -> io::Result<()> {
     beyond_case(rt, &[0, 1, 1, 1], &[0, 1], 2)?;
     beyond_case(rt, &[0, 1, 1, 2, 2, 2], &[0, 1, 0], 3)?;
@@ -51,7 +53,8 @@ fn project_cases(rt: &HostRuntime) -> io::Result<()> {
     subsets_case(rt, &[1, 1, 0, 1], &[0, 1], 2, &[0, 1], None, 2)
 }
 
-// Of B and E, of E with its last two classes exchanged, so that they are not in the order of their first words, and of a table that accepts every word.
+// Of B and E, of E with its last two classes exchanged, so that they are not in the order of their
+// first words, and of a table that accepts every word.
 fn steps_cases(rt: &HostRuntime) -> io::Result<()> {
     steps_case(rt, &[0, 1, 1, 1], &[0, 1], 2)?;
     steps_case(rt, &[1, 0, 1, 2, 2, 2], &[0, 0, 1], 3)?;

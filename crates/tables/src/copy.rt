@@ -5,7 +5,8 @@ ghost use Rattle.tables.specs.View.{moves, accepting};
 
 use crate::cells::Table;
 
-// Writes the table into `rows` and `accept`, which may hold anything; what lies behind it there stays.
+// Writes the table into `rows` and `accept`, which may hold anything; what lies behind it there
+// stays.
 pub fn copy(t: Table, rows: &mut [u32], accept: &mut [u32])
     requires rows { t.classes * t.width ≤ length rows.old }
     requires accept { t.classes ≤ length accept.old }

@@ -4,7 +4,8 @@ ghost use Rattle.tables.specs.Cells.{entry, put_entry, accepts};
 
 use crate::cells::{Class, Table, WordTable, get, put};
 
-/// How large a table may become: it has a column for each of the 2^sets columns of a word over `sets` sets, and at most `most` classes.
+/// How large a table may become: it has a column for each of the 2^sets columns of a word over
+/// `sets` sets, and at most `most` classes.
 #[derive(Clone, Copy)]
 pub struct Shape {
     pub most: usize,
@@ -32,7 +33,8 @@ impl Shape {
     }
 }
 
-/// Memory for the rows of a table of that shape, and for which classes accept. What it held before does not matter.
+/// Memory for the rows of a table of that shape, and for which classes accept. What it held before
+/// does not matter.
 #[derive(Drop)]
 pub struct Sheet<'a> {
     pub rows: &'a mut [u32],

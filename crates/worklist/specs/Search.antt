@@ -5,14 +5,16 @@ use Rattle.tables.specs.Cells.{entry, accepts}
 use Rattle.tables.specs.Search.{Searching}
 use Rattle.tables.specs.declared.sheet.Sheet.{Sheet}
 
--- an automaton over things of any kind: where words begin, where a column of so many sets leads, and which things accept
+-- an automaton over things of any kind: where words begin, where a column of so many sets leads,
+-- and which things accept
 pub record Automaton (S : Type 0) : Type 0 where
   pub sets : ℕ
   pub start : S
   pub step : S → ℕ → S
   pub accepts : S → Bool
 
--- a memory of the things that are found, with room for so many: thing i is `at i`, and the first m are numbered where `Holds m`
+-- a memory of the things that are found, with room for so many: thing i is `at i`, and the first m
+-- are numbered where `Holds m`
 pub record Memory (S : Type 0) : Type 1 where
   pub automaton : Automaton S
   pub room : ℕ

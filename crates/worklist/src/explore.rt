@@ -1,19 +1,24 @@
-// A search from a start on: what it finds is numbered, row by row and column by column, and its table is written.
+// A search from a start on: what it finds is numbered, row by row and column by column, and its
+// table is written.
 //
-// What has a number is also the queue of the search: rows are written in the order of the numbers until each has its row. Column by column of a row, what the
-// column leads to is looked up, gets the next number if it has none, and the number is written into the row. What is searched, and how a thing is found
-// again, is the business of a `Frontier`: the pairs of classes of a product, the sets of classes of a projection, what is left of a claim without parts.
+// What has a number is also the queue of the search: rows are written in the order of the numbers
+// until each has its row. Column by column of a row, what the column leads to is looked up, gets
+// the next number if it has none, and the number is written into the row. What is searched, and how
+// a thing is found again, is the business of a `Frontier`: the pairs of classes of a product, the
+// sets of classes of a projection, what is left of a claim without parts.
 //
-// Invariant, at row i and column a (`Going`): the things with a number differ, each is reached by a word, and every cell before this one, row by row, holds
-// the number of the thing to which it leads. So at the end all that is reached has its row; and where a further number is wanted while as many things as the
-// sheet has room for have one, more things than that are reached.
+// Invariant, at row i and column a (`Going`): the things with a number differ, each is reached by a
+// word, and every cell before this one, row by row, holds the number of the thing to which it
+// leads. So at the end all that is reached has its row; and where a further number is wanted while
+// as many things as the sheet has room for have one, more things than that are reached.
 ghost use Rattle.std.specs.Prelude.{◌≡◌, ℕ, ◌+◌, ◌^◌, ◌<◌, ◌≤◌, MatchOption};
 ghost use Rattle.tables.specs.Cells.{accepts};
 ghost use Rattle.worklist.specs.Search.{Memory, Begun, Ready, Inside, Followed, Going, Same, Advanced, Extended, Tabled, Excess};
 
 use tables::sheet::Sheet;
 
-/// An automaton, and a memory that numbers its things as they are found. A further kind of search is one more impl.
+/// An automaton, and a memory that numbers its things as they are found. A further kind of search
+/// is one more impl.
 pub trait Frontier {
     /// What is found.
     ghost Thing: { Type 0 };
@@ -37,7 +42,8 @@ pub trait Frontier {
         requires { Inside (seen self.now) m i }
         ensures { Of result ((seen self.now).at i) };
 
-    /// The number of the thing to which column a leads from thing i, where m are numbered: m itself if it is new.
+    /// The number of the thing to which column a leads from thing i, where m are numbered: m itself
+    /// if it is new.
     fn follow(&mut self, m: usize, i: usize, origin: Self::Origin, a: u32) -> usize
         requires ready { Ready (seen self.old) m i a }
         requires origin { Of origin ((seen self.old).at i) }
@@ -135,7 +141,8 @@ fn mark<F: Frontier>(f: &F, t: &mut Sheet, n: usize)
     }
 }
 
-/// The table of the automaton's things that are reached, and how many they are; or that they are more than the sheet has room for.
+/// The table of the automaton's things that are reached, and how many they are; or that they are
+/// more than the sheet has room for.
 pub fn explore<F: Frontier>(f: &mut F, t: &mut Sheet) -> Option<usize>
     requires sets { (F.seen f.old).automaton.sets ≡ t.old.shape.sets }
     requires some { 0 < t.old.shape.most }

@@ -14,7 +14,8 @@ pub fn fits(claim: &[u8], most: u32) -> bool
     floor(claim, most) + 4 * u128::from(most) <= MOST_WORDS
 }
 
-/// The largest number of classes up to `most` that fits. The invariant: so many classes fit; of no classes each claim's words do.
+/// The largest number of classes up to `most` that fits. The invariant: so many classes fit; of no
+/// classes each claim's words do.
 pub fn largest(claim: &[u8], most: u32) -> u32
     requires { length claim.now ≤ 1024 }
     ensures within { result ≤ most }

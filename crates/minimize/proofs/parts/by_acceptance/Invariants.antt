@@ -2,7 +2,8 @@ use Rattle.std.proofs.Common.{◌≡◌, ℕ, ◌<◌, ◌≤◌, Bool, get_or}
 use Rattle.tables.specs.Cells.{accepts}
 use Rattle.minimize.proofs.parts.by_acceptance.Given as goal
 
--- a class before q is in part 0 if it accepts as class 0 does, else in part 1; where there is such a class, the first of them is known
+-- a class before q is in part 0 if it accepts as class 0 does, else in part 1; where there is such
+-- a class, the first of them is known
 pub record Accepting (f : ℕ → Bool) (q : ℕ) (cls first : ℕ → ℕ) (count : ℕ) : Type 0 where
   pub some : 1 ≤ count
   pub two : count ≤ 2
