@@ -2,7 +2,7 @@
 use Rattle.std.proofs.Common.{◌≡◌, ℕ, suc, List, [], ◌∷◌, ◌++◌, map, refl, ap, ◌∙◌}
 use Rattle.formulas.specs.Meaning.{Env}
 use Rattle.trees.specs.declared.tree.Name.{Name}
-use Rattle.trees.specs.declared.tree.Expr.{Expr}
+use Rattle.trees.specs.Tree.{Expr}
 use Rattle.trees.specs.declared.tree.Sort.{Sort}
 use Rattle.trees.specs.declared.tree.Item.{Item}
 use Rattle.trees.specs.declared.tree.Item.TheVariants.{Free, Predicate as defined, Assert, Formula}
@@ -27,10 +27,10 @@ declare_same sort (x ∷ names) l n e f s t h q =
     (ap (λ v. bind x v s) h.0 ∙ ap (λ c. bind x (given sort n f) c) q)
 
 abbrev assuming : Expr → Context → Text → Text
-assuming a s r = record { assumed = holds a s × r.assumed; claimed = r.claimed }
+assuming a s r = record { assumed = holds a.kind s × r.assumed; claimed = r.claimed }
 
 abbrev claiming : Expr → Context → Text → Text
-claiming a s r = record { assumed = r.assumed; claimed = holds a s × r.claimed }
+claiming a s r = record { assumed = r.assumed; claimed = holds a.kind s × r.claimed }
 
 pub text_same : (items : List Item) (n : ℕ) (e f : Env) (s t : Context) → Alike n (declared items) e f → s ≡ t → text_from items n e s ≡ text_from items n f t
 text_same [] n e f s t h q = refl

@@ -6,7 +6,6 @@ use Rattle.formulas.specs.declared.name.Name.{Name}
 use Rattle.formulas.specs.declared.formula.Formula.{Formula}
 use Rattle.formulas.specs.Names.{names, same_name}
 use Rattle.formula_claims.specs.Claimed.{Claimed}
-use Rattle.trees.specs.Tree.{span_of}
 use Rattle.trees.specs.declared.position.Span.{Span}
 use Rattle.trees.specs.declared.tree.Item.{Item}
 use Rattle.resolve.specs.Asks.{Asks}
@@ -56,7 +55,7 @@ IsInnermost n p = IsLarge n p.formula × AllSmall n (parts p)
 -- the span is that of an innermost large part of an assumption or a claim; or none of these is large
 abbrev pub NamesPart : List Item → Asked → ℕ → Option Span → Type 0
 NamesPart items asked n None = AllSmall n (statements items asked)
-NamesPart items asked n (Some span) = (whole : Piece) × (part : Piece) × Among whole (statements items asked) × Within whole part × IsInnermost n part × (span ≡ span_of part.expr)
+NamesPart items asked n (Some span) = (whole : Piece) × (part : Piece) × Among whole (statements items asked) × Within whole part × IsInnermost n part × (span ≡ part.expr.span)
 
 -- the same of what a text asks
 abbrev pub Narrowest : List Item → ℕ → Option Span → Type 0

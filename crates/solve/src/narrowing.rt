@@ -134,7 +134,7 @@ fn narrowest_of(
     ensures { IfOk result (λ found. NamesPart items.now asked.now n found) }
 {
     match large_statement(alloc, items, asked, n)? {
-        Some(whole) => Ok(Some(innermost(alloc, whole, n)?.expr.span())),
+        Some(whole) => Ok(Some(innermost(alloc, whole, n)?.expr.span)),
         None => Ok(None),
     }
 }
