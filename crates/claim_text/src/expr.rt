@@ -192,14 +192,17 @@ fn bound(
 ) -> Result<Expr, AllocError> {
     let mut names = Vec::new(alloc);
     names.push(name_of(alloc, word)?)?;
-    let body = match body.kind {
-        ExprKind::Bound(other, of, more, inside) if other == quantifier && of == sort => {
-            for name in more {
-                names.push(name)?;
+    match body.kind {
+        ExprKind::Bound(other, of, more, inside) => {
+            if other == quantifier && of == sort {
+                for name in more {
+                    names.push(name)?;
+                }
+                return Ok(expr(ExprKind::Bound(quantifier, sort, names, inside)));
             }
-            inside
+            let body = Box::new(alloc, expr(ExprKind::Bound(other, of, more, inside)))?;
+            Ok(expr(ExprKind::Bound(quantifier, sort, names, body)))
         }
-        kind => Box::new(alloc, expr(kind))?,
-    };
-    Ok(expr(ExprKind::Bound(quantifier, sort, names, body)))
+        kind => Ok(expr(ExprKind::Bound(quantifier, sort, names, Box::new(alloc, expr(kind))?))),
+    }
 }
