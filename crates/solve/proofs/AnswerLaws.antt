@@ -1,23 +1,20 @@
 -- What is found of the two claims is what is answered of the text.
-use Rattle.std.proofs.Common.{◌≡◌, ℕ, suc, ◌≤◌, max, ◌⊎◌, ◌↔◌, List, [], ◌∷◌, length, sym, refl, ap, ◌∙◌, subst, inl, inr, arith}
-use Rattle.words.specs.Words.{Word, Columns, sets}
-use Rattle.words.specs.Order.{Less}
+use Rattle.std.proofs.Common.{ℕ, ◌⊎◌, ◌↔◌, List, length, sym, refl, subst, inl, inr, arith}
+use Rattle.words.specs.Words.{Word}
 use Rattle.automata.proofs.Told.{told}
 use Rattle.formulas.specs.declared.name.Name.{Name as Numbered}
 use Rattle.formulas.specs.declared.formula.Formula.{Formula}
 use Rattle.formulas.specs.Meaning.{Env, Meaning}
-use Rattle.translation.specs.Settles.{Singles, env_of}
+use Rattle.translation.specs.Settles.{env_of}
 use Rattle.formula_claims.specs.Listed.{listed}
 use Rattle.formula_claims.specs.Claimed.{Claimed, whole, sets_needed}
-use Rattle.trees.specs.declared.tree.Name.{Name}
-use Rattle.trees.specs.declared.tree.Sort.{Sort}
 use Rattle.trees.specs.declared.tree.Item.{Item}
 use Rattle.resolve.specs.Says.{Text, text, nothing}
 use Rattle.resolve.specs.Asks.{declared}
 use Rattle.first_word.specs.declared.first_word.Found.{Found}
 use Rattle.first_word.specs.declared.first_word.Found.TheVariants.{Nothing, First, TooLarge}
 use Rattle.solve.specs.Telling.{HoldsOf as RowOf, Tells}
-use Rattle.solve.specs.Questions.{HoldsOf, FailsOf, Puts, names_of, numbered}
+use Rattle.solve.specs.Questions.{HoldsOf, FailsOf, Puts, names_of}
 use Rattle.solve.specs.Answers.{shown, IsRow, FirstRow, Large, Answers}
 use Rattle.solve.specs.declared.answer.Answer.TheVariants.{Always, Unmet, Never, Both}
 use Rattle.solve.proofs.TellingLaws.{columns_wider}

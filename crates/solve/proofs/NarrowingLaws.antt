@@ -1,5 +1,5 @@
 -- Which formulas are large, and which are not.
-use Rattle.std.proofs.Common.{◌≡◌, ℕ, ◌+◌, ◌*◌, ◌<◌, ◌≤◌, ◌⊎◌, ◌↔◌, Bool, true, false, IsTrue, List, [], ◌∷◌, length, inl, inr, sym, subst, ap, ◌∙◌, arith}
+use Rattle.std.proofs.Common.{◌≡◌, ℕ, ◌+◌, ◌*◌, ◌≤◌, ◌↔◌, Bool, true, false, IsTrue, List, [], ◌∷◌, length, inl, inr, sym, subst, ap, ◌∙◌, arith}
 use mathlib.Core.Bool.{false≢true}
 use Rattle.workspace.specs.Floor.{floor_words}
 use Rattle.claims.proofs.ClaimLaws.{claim_bounds}
@@ -8,11 +8,9 @@ use Rattle.formulas.specs.declared.name.Name.{Name}
 use Rattle.formulas.specs.declared.formula.Formula.{Formula}
 use Rattle.formula_claims.specs.Claimed.{Claimed, Refused, whole, sets_needed}
 use Rattle.formula_claims.specs.declared.claimed.Refusal.TheVariants.{Unlisted, Claim}
-use Rattle.resolve.specs.Faults.{Among}
 use Rattle.resolve.specs.Parts.{Piece}
 use Rattle.solve.specs.Telling.{Tells}
 use Rattle.solve.specs.Narrowing.{own_names, IsLarge, IsSmall, AllSmall}
-use Rattle.first_word.specs.declared.first_word.Found.{Found}
 use Rattle.first_word.specs.declared.first_word.Found.TheVariants.{Nothing, First, TooLarge}
 
 same_bytes : (l : List Name) (a : Formula) (s t : List ℕ) → Claimed l a s → Claimed l a t → s ≡ t

@@ -1,13 +1,12 @@
 -- The declared names have their numbers for places in the list of names, so a row gives them what it shows.
-use Rattle.std.proofs.Common.{◌≡◌, ℕ, zero, suc, ◌+◌, ◌≤◌, Bool, true, false, cond, ◌==◌, ◌⊎◌, ◌↔◌, List, [], ◌∷◌, map, length, sym, refl, ap, ◌∙◌, subst, inl, inr, arith}
+use Rattle.std.proofs.Common.{◌≡◌, ℕ, suc, ◌+◌, ◌≤◌, List, [], ◌∷◌, map, length, sym, refl, ap, subst, inl, inr, arith}
 use Rattle.words.specs.Words.{Word, bit, sets}
 use Rattle.claims.specs.Claims.{Only}
 use Rattle.formulas.specs.declared.name.Name.{Name as Numbered}
 use Rattle.formulas.specs.declared.name.Name.TheVariants.{OfPlace, OfGroup}
-use Rattle.formulas.specs.Names.{same_name, Among}
+use Rattle.formulas.specs.Names.{Among}
 use Rattle.formulas.proofs.NamesLaws.{name_tells}
 use Rattle.formulas.specs.Sets.{lowest}
-use Rattle.formulas.specs.Meaning.{Env}
 use Rattle.translation.specs.Settles.{Singles, env_of}
 use Rattle.formula_claims.specs.Listed.{position_of, listed}
 use Rattle.trees.specs.declared.tree.Name.{Name}

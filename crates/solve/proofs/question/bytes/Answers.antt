@@ -1,7 +1,7 @@
-use Rattle.std.proofs.Common.{◌≡◌, ◌++◌, ◌∙◌, ap, subst, ◌↔◌}
+use Rattle.std.proofs.Common.{◌++◌, ◌∙◌, ap, subst}
 use Rattle.formula_claims.specs.Claimed.{Claimed}
 use Rattle.resolve.specs.Says.{text}
-use Rattle.resolve.specs.Asks.{free, declared, all_hold}
+use Rattle.resolve.specs.Asks.{free, all_hold}
 use Rattle.resolve.proofs.Iff.{iff_trans}
 use Rattle.solve.specs.Questions.{numbered}
 use Rattle.solve.proofs.QuestionLaws.{posed_says}
