@@ -82,27 +82,41 @@ fn within(x: u32, y: u32) -> Formula {
     Formula::Sub(Group::Named(x), Group::Named(y))
 }
 
+// What is answered of the rows of which it does not hold that set x is within set y.
+fn not_within(alloc: Global, rule: &Rule, x: u32, y: u32) -> Result<Verdict, Fail> {
+    answer(alloc, rule, Property::Fails(within(x, y)), MOST)
+}
+
+fn has_sets(alloc: Global, rule: &Rule, x: u32, y: u32) -> Result<bool, Fail> {
+    let formula = Box::new(alloc, within(x, y))?;
+    Ok(rule.has_names_of(alloc, &formula)?)
+}
+
 #[test]
 fn formula_fails(rt: HostRuntime) -> Result<(), Fail> {
     let alloc = rt.alloc();
     let rule = shifting(alloc, Vec::new(alloc))?;
-    let kept = Property::Fails(within(0, 2));
-    let row = row_of(answer(alloc, &rule, kept, MOST)?).ok_or("a row")?;
+    let row = row_of(not_within(alloc, &rule, 0, 2)?).ok_or("a row")?;
     assert_eq!(rt; row.as_slice(), [1].as_slice());
-    let none_new = Property::Fails(within(2, 0));
-    let never = answer(alloc, &rule, none_new, MOST)?;
+    let never = not_within(alloc, &rule, 2, 0)?;
     assert!(rt; matches!(never, Verdict::Never));
-    assert!(rt; rule.has_names_of(alloc, &within(0, 2))?);
-    assert!(rt; !rule.has_names_of(alloc, &within(0, 3))?);
+    assert!(rt; has_sets(alloc, &rule, 0, 2)?);
+    assert!(rt; !has_sets(alloc, &rule, 0, 3)?);
     Ok(())
+}
+
+// Some module has the bit.
+fn bit_somewhere(alloc: Global) -> Result<Vec<Formula>, Fail> {
+    let nowhere = Box::new(alloc, Formula::Sub(Group::Named(0), Group::Empty))?;
+    let mut limits = Vec::new(alloc);
+    limits.push(Formula::Not(nowhere))?;
+    Ok(limits)
 }
 
 #[test]
 fn limits_hold(rt: HostRuntime) -> Result<(), Fail> {
     let alloc = rt.alloc();
-    let mut limits = Vec::new(alloc);
-    limits.push(Formula::Not(Box::new(alloc, Formula::Sub(Group::Named(0), Group::Empty))?))?;
-    let rule = shifting(alloc, limits)?;
+    let rule = shifting(alloc, bit_somewhere(alloc)?)?;
     let allowed = row_of(answer(alloc, &rule, Property::Allowed, MOST)?).ok_or("a row")?;
     assert_eq!(rt; allowed.as_slice(), [1].as_slice());
     let left = row_of(answer(alloc, &rule, Property::Left, MOST)?).ok_or("a row")?;

@@ -50,31 +50,40 @@ fn patterns_and_lines(rt: HostRuntime) -> Result<(), Fail> {
 }
 
 // All places p in set x are in set y, where p has the number that is free next.
-fn all_in(alloc: Global, p: u32, x: u32, then: Formula) -> Result<Formula, Fail> {
-    let within = Formula::In(Place::Named(p), Group::Named(x));
-    let implies = Formula::Implies(Box::new(alloc, within)?, Box::new(alloc, then)?);
-    Ok(Formula::All1(p, Box::new(alloc, implies)?))
+fn all_in(alloc: Global, p: u32, x: u32, then: Box<Formula>) -> Result<Box<Formula>, Fail> {
+    let implies = Box::new(alloc, Formula::Implies(place_in(alloc, p, x)?, then))?;
+    let all = Box::new(alloc, Formula::All1(p, implies))?;
+    Ok(all)
+}
+
+fn place_in(alloc: Global, p: u32, x: u32) -> Result<Box<Formula>, Fail> {
+    let within = Box::new(alloc, Formula::In(Place::Named(p), Group::Named(x)))?;
+    Ok(within)
+}
+
+fn not_in(alloc: Global, p: u32, x: u32) -> Result<Box<Formula>, Fail> {
+    let not = Box::new(alloc, Formula::Not(place_in(alloc, p, x)?))?;
+    Ok(not)
 }
 
 #[test]
 fn formulas_and_claims(rt: HostRuntime) -> Result<(), Fail> {
     let alloc = rt.alloc();
     let source = source_of(alloc, RULE).ok().ok_or("a rule")?;
-    let outside = Formula::Not(Box::new(alloc, Formula::In(Place::Named(3), Group::Named(0)))?);
-    let limit = all_in(alloc, 3, 1, outside)?;
+    let limit = all_in(alloc, 3, 1, not_in(alloc, 3, 0)?)?;
     let [read] = source.rule.limits.as_slice() else {
         return Err(Fail::from("a limit"));
     };
-    assert!(rt; *read == limit);
+    assert!(rt; *read == *limit);
     let claims = claims_of(alloc, &source).ok().ok_or("claims")?;
     let [gap, fork] = claims.as_slice() else {
         return Err(Fail::from("two claims"));
     };
     assert!(rt; gap.name == "gap" && gap.put == Put::Never);
     assert!(rt; fork.name == "kept" && fork.put == Put::Claim);
-    let kept = all_in(alloc, 5, 1, Formula::In(Place::Named(5), Group::Named(4)))?;
+    let kept = all_in(alloc, 5, 1, place_in(alloc, 5, 4)?)?;
     match &fork.question.property {
-        Property::Fails(formula) => assert!(rt; *formula == kept),
+        Property::Fails(formula) => assert!(rt; *formula == *kept),
         _ => return Err(Fail::from("a formula")),
     }
     Ok(())
