@@ -86,7 +86,7 @@ abbrev pub parts : Piece → List Piece
 parts p = parts_of p.known p.expr.kind p.formula
 
 abbrev pub stated_by : List Item → Stated → Piece
-stated_by items s = record { known = items; expr = s.expr.now; formula = s.formula }
+stated_by items s = record { known = items; expr = s.expr.now; formula = s.formula.value }
 
 -- the assumptions of a text, then its claims
 abbrev pub statements : List Item → Asked → List Piece
