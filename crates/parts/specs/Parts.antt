@@ -15,7 +15,7 @@ use Rattle.trees.specs.declared.tree.Item.TheVariants.{Predicate as Defined}
 use Rattle.resolve.specs.Faults.{Among}
 use Rattle.resolve.specs.declared.asked.Stated.{Stated}
 use Rattle.resolve.specs.declared.asked.Asked.{Asked}
-use Rattle.resolve.specs.declared.narrow.Part.{Part}
+use Rattle.parts.specs.declared.parts.Part.{Part}
 
 -- what stands in a text, that as a formula, and the items whose predicates are known there
 pub record Piece : Type 0 where
