@@ -47,7 +47,7 @@ module _ (r : Rule) where
   tells Stuck n = all_tell.stuck
   tells Left n = left_tells (changed r.bits r.allowed.items r.limits.items r.table.items) all_tell
   tells (Met q) n = all_tell.place q (is_true _ n)
-  tells (Fails a) n = all_tell.fails (named_after r.bits a) a (has_named_them r.bits a (is_true _ n))
+  tells (Fails a) n = all_tell.fails (named_after r.bits a.value) a.value (has_named_them r.bits a.value (is_true _ n))
 
 pub told : (r : Rule) (p : Property) (k most n : ℕ) (v : Verdict) → IsOf r p → r.bits < k → k ≡ sets_needed (suc r.bits) (claim_of r p) → n ≤ most → (n < most → 1048576 < floor_words (k ∷ row (claim_of r p)) (n + 1) + 4 * (n + 1)) →
     Found r.bits k (claim_of r p) n v → Told r p most v

@@ -16,7 +16,7 @@ use Rattle.rule_source.specs.Patterns.{literals_in}
 -- the property is the opposite of what the statement claims: of `never` that its pattern is met, of `claim` that its formula fails, which speaks of a row and of the row after one step
 abbrev pub Denies : Bits → Statement → Property → Type 0
 Denies b (statement.Never n p) (Met q) = q ≡ literals_in b p
-Denies b (statement.Claim n f) (Fails a) = FormulaOf b Step f a
+Denies b (statement.Claim n f) (Fails a) = FormulaOf b Step f a.value
 Denies b _ _ = ⊥
 
 -- it is put and named as its statement says, and asks the file's rule for the opposite of what the statement claims

@@ -33,7 +33,7 @@ Has r Allowed w = (w ≢ []) × IsAllowed r w
 Has r Stuck w = (w ≢ []) × (IsAllowed r w × rows.Stuck r.table.items w)
 Has r Left w = IsAllowed r w × (IsAllowed r (after r w) → ⊥)
 Has r (Met p) w = IsAllowed r w × Somewhere p w
-Has r (Fails a) w = (w ≢ []) × (IsAllowed r w × (Meaning a (row_env r.bits w (after r w)) → ⊥))
+Has r (Fails a) w = (w ≢ []) × (IsAllowed r w × (Meaning a.value (row_env r.bits w (after r w)) → ⊥))
 
 -- whether it names only bits that a module of the rule has, and its formula only sets of the row and of the row after
 abbrev pub is_of : Rule → Property → Bool
@@ -41,7 +41,7 @@ is_of r Allowed = true
 is_of r Stuck = true
 is_of r Left = true
 is_of r (Met p) = literals_ok (below r.bits) p
-is_of r (Fails a) = groups_ok (λ x. nat_lt x (suc (r.bits + r.bits))) (names a)
+is_of r (Fails a) = groups_ok (λ x. nat_lt x (suc (r.bits + r.bits))) (names a.value)
 
 abbrev pub IsOf : Rule → Property → Type 0
 IsOf r p = IsTrue (is_of r p)
@@ -56,7 +56,7 @@ claim_of r Allowed = allowed_claim r.bits r.allowed.items r.limits.items
 claim_of r Stuck = stuck_claim r.bits r.allowed.items r.limits.items r.table.items
 claim_of r Left = left_of r.bits (changed r.bits r.allowed.items r.limits.items r.table.items) r.allowed.items r.limits.items r.table.items
 claim_of r (Met p) = place_claim r.bits r.allowed.items r.limits.items p
-claim_of r (Fails a) = fails_claim r.bits (named_after r.bits a) r.allowed.items r.limits.items r.table.items a
+claim_of r (Fails a) = fails_claim r.bits (named_after r.bits a.value) r.allowed.items r.limits.items r.table.items a.value
 
 -- why a property is not asked of a rule: only memory can be wanting where it names what the rule has
 abbrev pub Unasked : Rule → Property → Unsound → Type 0

@@ -4,26 +4,26 @@ ghost use Rattle.rows.specs.RuleLocal.{same_side, on, fits_nothing, literal_loca
 ghost use Rattle.rules.specs.Local.{local_of};
 ghost use Rattle.rules.specs.Numbers.{number_of};
 
-use crate::local::{Local, also, before, behind, both, either, negated, non};
+use crate::local::{Local, all, also, before, behind, both, either, negated, non, sees};
 use crate::numbers::Numbers;
 use rows::line::Pattern;
 use rows::rule::{Literal, Side};
 use std::alloc::{AllocError, Global};
 
 /// The literal is as it says, where what is asked of is at the place itself.
-pub fn of_literal(alloc: Global, x: &Numbers, p: Literal) -> Result<Local, AllocError>
-    ensures { IfOk result (λ f. local_of f ≡ literal_local x.now.bits (number_of x.now) p) }
+pub fn of_literal(alloc: Global, x: &Numbers, p: Literal) -> Result<Box<Local>, AllocError>
+    ensures { IfOk result (λ f. local_of f.value ≡ literal_local x.now.bits (number_of x.now) p) }
 {
-    let sees = Local::Sees(x.of_asked(p.asked));
-    if p.set { Ok(sees) } else { non(alloc, sees) }
+    let seen = sees(alloc, x.of_asked(p.asked))?;
+    if p.set { Ok(seen) } else { non(alloc, seen) }
 }
 
 /// All of the literals are as they say, where what they ask of is at the place itself.
-pub fn of_literals(alloc: Global, x: &Numbers, ps: &[Literal]) -> Result<Local, AllocError>
-    ensures { IfOk result (λ f. local_of f ≡ literals_local x.now.bits (number_of x.now) ps.now) }
+pub fn of_literals(alloc: Global, x: &Numbers, ps: &[Literal]) -> Result<Box<Local>, AllocError>
+    ensures { IfOk result (λ f. local_of f.value ≡ literals_local x.now.bits (number_of x.now) ps.now) }
 {
     match ps {
-        [] => Ok(Local::All),
+        [] => all(alloc),
         [p] => of_literal(alloc, x, *p),
         [p, rest @ ..] => both(
             alloc,
@@ -68,11 +68,11 @@ pub fn nothing_fits(ps: &[Literal]) -> bool
 }
 
 /// Of the left neighbour: there is one that fits; or, where nothing fits too, there is none that does not.
-pub fn of_left(alloc: Global, x: &Numbers, ps: &[Literal]) -> Result<Local, AllocError>
-    ensures { IfOk result (λ f. local_of f ≡ left_local x.now.bits (number_of x.now) ps.now) }
+pub fn of_left(alloc: Global, x: &Numbers, ps: &[Literal]) -> Result<Box<Local>, AllocError>
+    ensures { IfOk result (λ f. local_of f.value ≡ left_local x.now.bits (number_of x.now) ps.now) }
 {
     if ps.is_empty() {
-        return Ok(Local::All);
+        return all(alloc);
     }
     let neighbour = of_literals(alloc, x, ps)?;
     if nothing_fits(ps) {
@@ -84,18 +84,18 @@ pub fn of_left(alloc: Global, x: &Numbers, ps: &[Literal]) -> Result<Local, Allo
 }
 
 /// Of the right neighbour: behind each place there is one, though perhaps none of the row.
-pub fn of_right(alloc: Global, x: &Numbers, ps: &[Literal]) -> Result<Local, AllocError>
-    ensures { IfOk result (λ f. local_of f ≡ right_local x.now.bits (number_of x.now) ps.now) }
+pub fn of_right(alloc: Global, x: &Numbers, ps: &[Literal]) -> Result<Box<Local>, AllocError>
+    ensures { IfOk result (λ f. local_of f.value ≡ right_local x.now.bits (number_of x.now) ps.now) }
 {
     if ps.is_empty() {
-        return Ok(Local::All);
+        return all(alloc);
     }
     behind(alloc, of_literals(alloc, x, ps)?)
 }
 
 /// The module at the place and its neighbours fit the pattern.
-pub fn of_pattern(alloc: Global, x: &Numbers, ps: &[Literal]) -> Result<Local, AllocError>
-    ensures { IfOk result (λ f. local_of f ≡ fits_local x.now.bits (number_of x.now) ps.now) }
+pub fn of_pattern(alloc: Global, x: &Numbers, ps: &[Literal]) -> Result<Box<Local>, AllocError>
+    ensures { IfOk result (λ f. local_of f.value ≡ fits_local x.now.bits (number_of x.now) ps.now) }
 {
     let own = of_literals(alloc, x, &on_side(alloc, Side::Own, ps)?)?;
     let left = of_left(alloc, x, &on_side(alloc, Side::Left, ps)?)?;
@@ -104,11 +104,15 @@ pub fn of_pattern(alloc: Global, x: &Numbers, ps: &[Literal]) -> Result<Local, A
 }
 
 /// One of the patterns fits.
-pub fn of_patterns(alloc: Global, x: &Numbers, patterns: &[Pattern]) -> Result<Local, AllocError>
-    ensures { IfOk result (λ f. local_of f ≡ allowed_local x.now.bits (number_of x.now) patterns.now) }
+pub fn of_patterns(
+    alloc: Global,
+    x: &Numbers,
+    patterns: &[Pattern],
+) -> Result<Box<Local>, AllocError>
+    ensures { IfOk result (λ f. local_of f.value ≡ allowed_local x.now.bits (number_of x.now) patterns.now) }
 {
     match patterns {
-        [] => non(alloc, Local::All),
+        [] => non(alloc, all(alloc)?),
         [p] => of_pattern(alloc, x, p.literals()),
         [p, rest @ ..] => either(
             alloc,

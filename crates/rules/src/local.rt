@@ -1,6 +1,6 @@
 // What is so at a place, as a tree, and the lowest number that such a tree does not name.
 ghost use Rattle.std.specs.Prelude.{◌≡◌, ◌≤◌, IfOk, false};
-ghost use Rattle.rows.specs.Local.{non, both, before, behind, neg, names as is_named, fresh as fresh_number};
+ghost use Rattle.rows.specs.Local.{all, sees, non, both, before, behind, neg, names as is_named, fresh as fresh_number};
 ghost use Rattle.rows.specs.RuleLocal.{either, implies, also};
 ghost use Rattle.rules.specs.Local.{local_of};
 
@@ -17,69 +17,88 @@ pub enum Local {
     Behind(Box<Local>),
 }
 
-/// The opposite.
-pub fn non(alloc: Global, f: Local) -> Result<Local, AllocError>
-    ensures { IfOk result (λ r. local_of r ≡ non (local_of f)) }
+/// Everything is so.
+pub fn all(alloc: Global) -> Result<Box<Local>, AllocError>
+    ensures { IfOk result (λ r. local_of r.value ≡ all) }
 {
-    Ok(Local::Non(Box::new(alloc, f)?))
+    Ok(Box::new(alloc, Local::All)?)
+}
+
+/// The place lies in set y.
+pub fn sees(alloc: Global, y: u16) -> Result<Box<Local>, AllocError>
+    ensures { IfOk result (λ r. local_of r.value ≡ sees y) }
+{
+    Ok(Box::new(alloc, Local::Sees(y))?)
+}
+
+/// The opposite.
+pub fn non(alloc: Global, f: Box<Local>) -> Result<Box<Local>, AllocError>
+    ensures { IfOk result (λ r. local_of r.value ≡ non (local_of f.value)) }
+{
+    Ok(Box::new(alloc, Local::Non(f))?)
 }
 
 /// Both are so at the place.
-pub fn both(alloc: Global, f: Local, g: Local) -> Result<Local, AllocError>
-    ensures { IfOk result (λ r. local_of r ≡ both (local_of f) (local_of g)) }
+pub fn both(alloc: Global, f: Box<Local>, g: Box<Local>) -> Result<Box<Local>, AllocError>
+    ensures { IfOk result (λ r. local_of r.value ≡ both (local_of f.value) (local_of g.value)) }
 {
-    Ok(Local::Both(Box::new(alloc, f)?, Box::new(alloc, g)?))
+    Ok(Box::new(alloc, Local::Both(f, g))?)
 }
 
 /// There is a place just before this one, and there it is so.
-pub fn before(alloc: Global, f: Local) -> Result<Local, AllocError>
-    ensures { IfOk result (λ r. local_of r ≡ before (local_of f)) }
+pub fn before(alloc: Global, f: Box<Local>) -> Result<Box<Local>, AllocError>
+    ensures { IfOk result (λ r. local_of r.value ≡ before (local_of f.value)) }
 {
-    Ok(Local::Before(Box::new(alloc, f)?))
+    Ok(Box::new(alloc, Local::Before(f))?)
 }
 
 /// At the place just behind this one it is so.
-pub fn behind(alloc: Global, f: Local) -> Result<Local, AllocError>
-    ensures { IfOk result (λ r. local_of r ≡ behind (local_of f)) }
+pub fn behind(alloc: Global, f: Box<Local>) -> Result<Box<Local>, AllocError>
+    ensures { IfOk result (λ r. local_of r.value ≡ behind (local_of f.value)) }
 {
-    Ok(Local::Behind(Box::new(alloc, f)?))
+    Ok(Box::new(alloc, Local::Behind(f))?)
 }
 
 /// The opposite, without a double not.
-pub fn negated(alloc: Global, f: Local) -> Result<Local, AllocError>
-    ensures { IfOk result (λ r. local_of r ≡ neg (local_of f)) }
+pub fn negated(alloc: Global, f: Box<Local>) -> Result<Box<Local>, AllocError>
+    ensures { IfOk result (λ r. local_of r.value ≡ neg (local_of f.value)) }
 {
-    match f {
-        Local::Non(g) => Ok(Box::into_inner(g)),
-        g => non(alloc, g),
+    match Box::into_inner(f) {
+        Local::Non(g) => Ok(g),
+        g => {
+            let g = Box::new(alloc, g)?;
+            non(alloc, g)
+        }
     }
 }
 
 /// One of the two is so.
-pub fn either(alloc: Global, f: Local, g: Local) -> Result<Local, AllocError>
-    ensures { IfOk result (λ r. local_of r ≡ either (local_of f) (local_of g)) }
+pub fn either(alloc: Global, f: Box<Local>, g: Box<Local>) -> Result<Box<Local>, AllocError>
+    ensures { IfOk result (λ r. local_of r.value ≡ either (local_of f.value) (local_of g.value)) }
 {
     let neither = both(alloc, negated(alloc, f)?, negated(alloc, g)?)?;
     non(alloc, neither)
 }
 
 /// Where the first is so, the second is.
-pub fn implies(alloc: Global, f: Local, g: Local) -> Result<Local, AllocError>
-    ensures { IfOk result (λ r. local_of r ≡ implies (local_of f) (local_of g)) }
+pub fn implies(alloc: Global, f: Box<Local>, g: Box<Local>) -> Result<Box<Local>, AllocError>
+    ensures { IfOk result (λ r. local_of r.value ≡ implies (local_of f.value) (local_of g.value)) }
 {
     let fails = both(alloc, f, negated(alloc, g)?)?;
     non(alloc, fails)
 }
 
 /// Both, where neither says everything.
-pub fn also(alloc: Global, f: Local, g: Local) -> Result<Local, AllocError>
-    ensures { IfOk result (λ r. local_of r ≡ also (local_of f) (local_of g)) }
+pub fn also(alloc: Global, f: Box<Local>, g: Box<Local>) -> Result<Box<Local>, AllocError>
+    ensures { IfOk result (λ r. local_of r.value ≡ also (local_of f.value) (local_of g.value)) }
 {
-    match (f, g) {
-        (Local::All, g) => Ok(g),
-        (f, Local::All) => Ok(f),
-        (f, g) => both(alloc, f, g),
+    if let Local::All = &*f {
+        return Ok(g);
     }
+    if let Local::All = &*g {
+        return Ok(f);
+    }
+    both(alloc, f, g)
 }
 
 /// Whether the tree names set y. A number of more than two bytes it does not name.

@@ -41,8 +41,8 @@ pub fn somewhere(alloc: Global, r: usize, f: &Local) -> Result<Claim, AllocError
 }
 
 /// The claim that each place of set r is as the tree says.
-pub fn each(alloc: Global, r: usize, f: Local) -> Result<Claim, AllocError>
-    ensures { IfOk result (λ c. said c ≡ each r (local_of f)) }
+pub fn each(alloc: Global, r: usize, f: Box<Local>) -> Result<Claim, AllocError>
+    ensures { IfOk result (λ c. said c ≡ each r (local_of f.value)) }
 {
     let other = negated(alloc, f)?;
     let fails = somewhere(alloc, r, &other)?;

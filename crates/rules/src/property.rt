@@ -18,7 +18,7 @@ pub enum Property {
     Stuck,
     Left,
     Met(Pattern),
-    Fails(Formula),
+    Fails(Box<Formula>),
 }
 
 /// The claim that holds of the rows that have the property, and of nothing else. It fails for want of memory alone.

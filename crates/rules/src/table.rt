@@ -6,7 +6,7 @@ ghost use Rattle.rules.specs.Local.{local_of};
 ghost use Rattle.rules.specs.Numbers.{number_of};
 
 use crate::clauses::of_pattern;
-use crate::local::{Local, before, behind, both, either, implies, negated, non};
+use crate::local::{Local, all, before, behind, both, either, implies, negated, non, sees};
 use crate::numbers::Numbers;
 use rows::line::Line;
 use rows::rule::{Literal, NewBit, Side};
@@ -18,15 +18,15 @@ fn waits_line(
     x: &Numbers,
     when: &[Literal],
     moves: bool,
-    others: Local,
-) -> Result<Local, AllocError>
-    ensures { IfOk result (λ f. local_of f ≡ waits_line x.now.bits (number_of x.now) when.now moves (local_of others)) }
+    others: Box<Local>,
+) -> Result<Box<Local>, AllocError>
+    ensures { IfOk result (λ f. local_of f.value ≡ waits_line x.now.bits (number_of x.now) when.now moves (local_of others.value)) }
 {
     if when.is_empty() {
         return if moves {
-            non(alloc, Local::All)
+            non(alloc, all(alloc)?)
         } else {
-            Ok(Local::All)
+            all(alloc)
         };
     }
     let fits = of_pattern(alloc, x, when)?;
@@ -38,37 +38,37 @@ fn waits_line(
 }
 
 /// The module waits: the first line that fits says so, or no line fits.
-pub fn of_waiting(alloc: Global, x: &Numbers, table: &[Line]) -> Result<Local, AllocError>
-    ensures { IfOk result (λ f. local_of f ≡ waits_local x.now.bits (number_of x.now) table.now) }
+pub fn of_waiting(alloc: Global, x: &Numbers, table: &[Line]) -> Result<Box<Local>, AllocError>
+    ensures { IfOk result (λ f. local_of f.value ≡ waits_local x.now.bits (number_of x.now) table.now) }
 {
     let [line, rest @ ..] = table else {
-        return Ok(Local::All);
+        return all(alloc);
     };
     let others = of_waiting(alloc, x, rest)?;
     waits_line(alloc, x, line.when(), line.moves(), others)
 }
 
 /// Set y has the place itself, or the place before or behind it.
-pub fn of_side(alloc: Global, side: Side, y: u16) -> Result<Local, AllocError>
-    ensures { IfOk result (λ f. local_of f ≡ at_side side y) }
+pub fn of_side(alloc: Global, side: Side, y: u16) -> Result<Box<Local>, AllocError>
+    ensures { IfOk result (λ f. local_of f.value ≡ at_side side y) }
 {
     match side {
-        Side::Left => before(alloc, Local::Sees(y)),
-        Side::Own => Ok(Local::Sees(y)),
-        Side::Right => behind(alloc, Local::Sees(y)),
+        Side::Left => before(alloc, sees(alloc, y)?),
+        Side::Own => sees(alloc, y),
+        Side::Right => behind(alloc, sees(alloc, y)?),
     }
 }
 
 /// The new bit is as set z says at the place.
-pub fn of_new_bit(alloc: Global, x: &Numbers, z: u16, new: NewBit) -> Result<Local, AllocError>
-    ensures { IfOk result (λ f. local_of f ≡ new_local (number_of x.now) z new) }
+pub fn of_new_bit(alloc: Global, x: &Numbers, z: u16, new: NewBit) -> Result<Box<Local>, AllocError>
+    ensures { IfOk result (λ f. local_of f.value ≡ new_local (number_of x.now) z new) }
 {
     match new {
-        NewBit::Fixed(true) => Ok(Local::Sees(z)),
-        NewBit::Fixed(false) => non(alloc, Local::Sees(z)),
+        NewBit::Fixed(true) => sees(alloc, z),
+        NewBit::Fixed(false) => non(alloc, sees(alloc, z)?),
         NewBit::AsWas(side, j) => {
-            let kept = implies(alloc, Local::Sees(z), of_side(alloc, side, x.of_bit(j))?)?;
-            let taken = implies(alloc, of_side(alloc, side, x.of_bit(j))?, Local::Sees(z))?;
+            let kept = implies(alloc, sees(alloc, z)?, of_side(alloc, side, x.of_bit(j))?)?;
+            let taken = implies(alloc, of_side(alloc, side, x.of_bit(j))?, sees(alloc, z)?)?;
             both(alloc, kept, taken)
         }
     }
@@ -92,11 +92,11 @@ pub fn of_new_bits(
     y: &Numbers,
     js: &[u8],
     bits: &[NewBit],
-) -> Result<Local, AllocError>
-    ensures { IfOk result (λ f. local_of f ≡ news_local (number_of x.now) (number_of y.now) js.now bits.now) }
+) -> Result<Box<Local>, AllocError>
+    ensures { IfOk result (λ f. local_of f.value ≡ news_local (number_of x.now) (number_of y.now) js.now bits.now) }
 {
     match js {
-        [] => Ok(Local::All),
+        [] => all(alloc),
         [j] => of_new_bit(alloc, x, y.of_bit(*j), entry_of(bits, *j)),
         [j, rest @ ..] => {
             let first = of_new_bit(alloc, x, y.of_bit(*j), entry_of(bits, *j))?;
@@ -110,10 +110,10 @@ fn after_line(
     alloc: Global,
     x: &Numbers,
     when: &[Literal],
-    new: Local,
-    others: Local,
-) -> Result<Local, AllocError>
-    ensures { IfOk result (λ f. local_of f ≡ after_line x.now.bits (number_of x.now) when.now (local_of new) (local_of others)) }
+    new: Box<Local>,
+    others: Box<Local>,
+) -> Result<Box<Local>, AllocError>
+    ensures { IfOk result (λ f. local_of f.value ≡ after_line x.now.bits (number_of x.now) when.now (local_of new.value) (local_of others.value)) }
 {
     if when.is_empty() {
         return Ok(new);
@@ -130,8 +130,8 @@ pub fn of_step(
     y: &Numbers,
     js: &[u8],
     table: &[Line],
-) -> Result<Local, AllocError>
-    ensures { IfOk result (λ f. local_of f ≡ after_local x.now.bits (number_of x.now) (number_of y.now) js.now table.now) }
+) -> Result<Box<Local>, AllocError>
+    ensures { IfOk result (λ f. local_of f.value ≡ after_local x.now.bits (number_of x.now) (number_of y.now) js.now table.now) }
 {
     let [line, rest @ ..] = table else {
         return of_new_bits(alloc, x, y, js, &[]);

@@ -8,6 +8,6 @@ pub returns : goal.returns
 returns c =
     let r = c.args.rule.now in
     let y = after_number r.bits c.args.after.now in
-    let e : local_of c.in_ok-of_patterns.field-0 ≡ allowed_local r.bits y r.allowed.items =
+    let e : local_of c.in_ok-of_patterns.field-0.value ≡ allowed_local r.bits y r.allowed.items =
     c.in_ok-of_patterns.ensures ∙ ap (λ t. allowed_local r.bits y t) c.deref.ensures.value in
     rw e at c.each.ensures

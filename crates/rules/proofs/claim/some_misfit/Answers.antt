@@ -9,6 +9,6 @@ pub returns : goal.returns
 returns c =
     let r = c.args.rule.now in
     let y = after_number r.bits c.args.after.now in
-    let e : local_of c.in_ok-other.other ≡ neg (allowed_local r.bits y r.allowed.items) =
-    c.in_ok-other.ensures ∙ (ap neg c.in_ok-of_patterns.ensures ∙ ap (λ t. neg (allowed_local r.bits y t)) c.deref.ensures.value) in
+    let e : local_of c.deref-2.result.now ≡ neg (allowed_local r.bits y r.allowed.items) =
+    ap local_of c.deref-2.ensures ∙ (c.in_ok-other.ensures ∙ (ap neg c.in_ok-of_patterns.ensures ∙ ap (λ t. neg (allowed_local r.bits y t)) c.deref.ensures.value)) in
     rw e at c.somewhere.ensures
