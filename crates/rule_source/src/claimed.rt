@@ -71,12 +71,14 @@ fn claim_of<'s, 't: 's>(
     ensures statement { IfOk result (λ c. c.statement.now ≡ statement.now) }
     ensures asks { IfOk result (λ c. Asks source.now c) }
 {
+    let name = word(source.bits.text, name)?;
     let property = property_of(alloc, &source.bits, statement)?;
+    let question = Question::new(alloc, &source.rule, property)?;
     Ok(Claim {
         put,
-        name: word(source.bits.text, name)?,
+        name,
         statement,
-        question: Question::new(alloc, &source.rule, property)?,
+        question,
     })
 }
 
