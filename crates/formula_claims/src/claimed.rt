@@ -14,10 +14,11 @@ use crate::length::formula_length;
 use crate::scope::{Scope, position};
 use crate::sure::sure;
 use crate::translate::translate;
+use crate::tree::{and, atom};
 use claims::atom::Atom;
 use claims::encode;
 use claims::encode::MOST_BYTES;
-use claims::tree::{Claim, and};
+use claims::tree::Claim;
 use formulas::formula::Formula;
 use formulas::free::free_names;
 use formulas::name::Name;
@@ -62,7 +63,7 @@ pub fn claim_bytes(alloc: Global, formula: &Formula, names: &[Name]) -> Result<V
         return Err(Refusal::Claim(encode::Refusal::TooManyBytes(needed)));
     }
     let claim = whole_claim(alloc, formula, names)?;
-    let bytes = encode::encode(alloc, &claim, names.len())?;
+    let bytes = encode::encode(alloc, &*claim, names.len())?;
     Ok(bytes)
 }
 
@@ -97,28 +98,25 @@ fn bytes_needed(formula: &Formula, names: &[Name]) -> usize
 fn with_places(
     alloc: Global,
     formula: &Formula,
-    claim: Claim,
+    claim: Box<Claim>,
     names: &[Name],
-) -> Result<Claim, AllocError>
-    ensures { IfOk result (λ r. said r ≡ singles (listed names.now) formula.now names.now (said claim)) }
+) -> Result<Box<Claim>, AllocError>
+    ensures { IfOk result (λ r. said r.value ≡ singles (listed names.now) formula.now names.now (said claim.value)) }
 {
     let mut whole = claim;
     for name in names {
         if let Name::OfPlace(x) = name {
             if !sure(formula, true, *x) {
-                whole = and(
-                    alloc,
-                    Claim::Atom(Atom::Single(position(names, *name))),
-                    whole,
-                )?;
+                let place = atom(alloc, Atom::Single(position(names, *name)))?;
+                whole = and(alloc, place, whole)?;
             }
         }
     }
     Ok(whole)
 }
 
-fn whole_claim(alloc: Global, formula: &Formula, names: &[Name]) -> Result<Claim, AllocError>
-    ensures { IfOk result (λ c. said c ≡ whole names.now formula.now) }
+fn whole_claim(alloc: Global, formula: &Formula, names: &[Name]) -> Result<Box<Claim>, AllocError>
+    ensures { IfOk result (λ c. said c.value ≡ whole names.now formula.now) }
 {
     let claim = translate(alloc, formula, &Scope::Free(names))?;
     with_places(alloc, formula, claim, names)

@@ -3,16 +3,19 @@ ghost use Rattle.std.specs.Prelude.{◌≡◌, [], ◌∷◌, IfOk};
 ghost use Rattle.formulas.specs.Names.{names_place, names_group};
 ghost use Rattle.translation.specs.Numbers.{numbers, fresh};
 ghost use Rattle.translation.specs.Translation;
-ghost use Rattle.claims.specs.Atoms.{atom};
+ghost use Rattle.claims.specs.Atoms.{atom as of_atom};
+ghost use Rattle.claims.specs.Claims.{not1, and1, some};
 ghost use Rattle.claims.specs.Trees.{said};
 ghost use Rattle.formula_claims.specs.Scope.{number_of};
 ghost use Rattle.formula_claims.specs.Points;
 
 use crate::scope::{Scope, fresh};
 use crate::sure::{is_sure, is_sure_in};
-use crate::tree::{is_before, is_first, lies, or, some_place};
+use crate::tree::{
+    and, and_not, atom, is_before, is_first, lies, no_place, no_set, not, or, some_place, some_set,
+};
 use claims::atom::Atom;
-use claims::tree::{Claim, and, not, some_set};
+use claims::tree::Claim;
 use formulas::formula::{Group, Place};
 use formulas::free::{push_group, push_place};
 use formulas::name::Name;
@@ -20,8 +23,13 @@ use std::alloc::{AllocError, Global};
 
 // Set n, if it is a place, is the place that the term means.
 #[cycle(terms)]
-pub fn is_place(alloc: Global, place: &Place, scope: &Scope, n: usize) -> Result<Claim, AllocError>
-    ensures { IfOk result (λ c. said c ≡ Translation.is_place place.now (number_of scope.now) n) }
+pub fn is_place(
+    alloc: Global,
+    place: &Place,
+    scope: &Scope,
+    n: usize,
+) -> Result<Box<Claim>, AllocError>
+    ensures { IfOk result (λ c. said c.value ≡ Translation.is_place place.now (number_of scope.now) n) }
 {
     match place {
         Place::Named(x) => lies(alloc, n, scope.number(Name::OfPlace(*x))),
@@ -58,27 +66,60 @@ fn is_end(
     m: usize,
     n: usize,
     beyond: Atom,
-) -> Result<Claim, AllocError>
-    ensures { IfOk result (λ c. said c ≡ Translation.is_end m n (Translation.is_in group.now (number_of scope.now) n) (Translation.is_sure_in group.now) (Translation.is_in group.now (number_of scope.now) m) (atom beyond)) }
+) -> Result<Box<Claim>, AllocError>
+    ensures { IfOk result (λ c. said c.value ≡ Translation.is_end m n (Translation.is_in group.now (number_of scope.now) n) (Translation.is_sure_in group.now) (Translation.is_in group.now (number_of scope.now) m) (of_atom beyond)) }
 {
-    let in_m = is_in(alloc, group, scope, m)?;
-    let further = some_set(alloc, m, and(alloc, Claim::Atom(beyond), in_m)?)?;
     let in_n = is_in(alloc, group, scope, n)?;
-    let outermost = and(alloc, in_n, not(alloc, further)?)?;
     let in_m = is_in(alloc, group, scope, m)?;
-    let filled = some_place(alloc, is_sure_in(group), m, in_m)?;
-    let empty = and(alloc, is_first(alloc, m, n)?, not(alloc, filled)?)?;
-    or(alloc, outermost, empty)
+    let outermost = is_outermost(alloc, in_n, m, in_m, beyond)?;
+    let in_m = is_in(alloc, group, scope, m)?;
+    let first_of_none = is_first_of_none(alloc, m, n, is_sure_in(group), in_m)?;
+    or(alloc, outermost, first_of_none)
+}
+
+// The place of which in_n says that it is in a set is the outermost there: no place of the set, as in_m says of set m, is further out, as `beyond` says.
+fn is_outermost(
+    alloc: Global,
+    in_n: Box<Claim>,
+    m: usize,
+    in_m: Box<Claim>,
+    beyond: Atom,
+) -> Result<Box<Claim>, AllocError>
+    ensures { IfOk result (λ r. said r.value ≡ and1 (said in_n.value) (not1 (some m (and1 (of_atom beyond) (said in_m.value))))) }
+{
+    let further = and(alloc, atom(alloc, beyond)?, in_m)?;
+    let none_further = no_set(alloc, m, further)?;
+    and(alloc, in_n, none_further)
+}
+
+// Set n, if it is a place, is place 0, and a set has no places, as in_m says of set m.
+fn is_first_of_none(
+    alloc: Global,
+    m: usize,
+    n: usize,
+    sure: bool,
+    in_m: Box<Claim>,
+) -> Result<Box<Claim>, AllocError>
+    ensures { IfOk result (λ r. said r.value ≡ and1 (Translation.is_first m n) (not1 (Translation.some_place sure m (said in_m.value)))) }
+{
+    let first = is_first(alloc, m, n)?;
+    let empty = no_place(alloc, sure, m, in_m)?;
+    and(alloc, first, empty)
 }
 
 // Set n, if it is a place, is in the set that the term means.
 #[cycle(terms)]
-pub fn is_in(alloc: Global, group: &Group, scope: &Scope, n: usize) -> Result<Claim, AllocError>
-    ensures { IfOk result (λ c. said c ≡ Translation.is_in group.now (number_of scope.now) n) }
+pub fn is_in(
+    alloc: Global,
+    group: &Group,
+    scope: &Scope,
+    n: usize,
+) -> Result<Box<Claim>, AllocError>
+    ensures { IfOk result (λ c. said c.value ≡ Translation.is_in group.now (number_of scope.now) n) }
 {
     match group {
         Group::Named(x) => lies(alloc, n, scope.number(Name::OfGroup(*x))),
-        Group::Empty => not(alloc, Claim::Atom(Atom::Within(n, n))),
+        Group::Empty => not(alloc, atom(alloc, Atom::Within(n, n))?),
         Group::Only(t) => is_place(alloc, t, scope, n),
         Group::Union(s, t) => {
             let in_s = is_in(alloc, s, scope, n)?;
@@ -93,7 +134,7 @@ pub fn is_in(alloc: Global, group: &Group, scope: &Scope, n: usize) -> Result<Cl
         Group::Minus(s, t) => {
             let in_s = is_in(alloc, s, scope, n)?;
             let in_t = is_in(alloc, t, scope, n)?;
-            and(alloc, in_s, not(alloc, in_t)?)
+            and_not(alloc, in_s, in_t)
         }
     }
 }
@@ -131,11 +172,11 @@ pub fn about(
     alloc: Global,
     place: &Place,
     m: usize,
-    is_place: Claim,
+    is_place: Box<Claim>,
     sure: bool,
-    claim: Claim,
-) -> Result<Claim, AllocError>
-    ensures { IfOk result (λ r. said r ≡ Points.about_set place.now m (said is_place) sure (said claim)) }
+    claim: Box<Claim>,
+) -> Result<Box<Claim>, AllocError>
+    ensures { IfOk result (λ r. said r.value ≡ Points.about_set place.now m (said is_place.value) sure (said claim.value)) }
 {
     match place {
         Place::Named(_) => Ok(claim),
@@ -152,15 +193,15 @@ fn behind(
     place: &Place,
     scope: &Scope,
     m: usize,
-    is_place: Claim,
+    is_place: Box<Claim>,
     n: usize,
-) -> Result<Claim, AllocError>
-    ensures { IfOk result (λ r. said r ≡ Translation.behind (number_of scope.now) place.now m (said is_place) n) }
+) -> Result<Box<Claim>, AllocError>
+    ensures { IfOk result (λ r. said r.value ≡ Translation.behind (number_of scope.now) place.now m (said is_place.value) n) }
 {
     match place {
-        Place::Named(x) => Ok(Claim::Atom(Atom::Next(scope.number(Name::OfPlace(*x)), n))),
+        Place::Named(x) => atom(alloc, Atom::Next(scope.number(Name::OfPlace(*x)), n)),
         _ => {
-            let both = and(alloc, is_place, Claim::Atom(Atom::Next(m, n)))?;
+            let both = and(alloc, is_place, atom(alloc, Atom::Next(m, n))?)?;
             some_set(alloc, m, both)
         }
     }

@@ -14,7 +14,7 @@ use Rattle.resolve.specs.declared.asked.Asked.{Asked}
 use Rattle.resolve.specs.Asks.{free, declared, all_hold, Renders, Written, Asks, AsksMore}
 use Rattle.resolve.proofs.Iff.{iff_and}
 
-pub all_hold_more : (l : List Stated) (s : Stated) (e : Env) → all_hold (l ++ (s ∷ [])) e ↔ (all_hold l e × Meaning s.formula e)
+pub all_hold_more : (l : List Stated) (s : Stated) (e : Env) → all_hold (l ++ (s ∷ [])) e ↔ (all_hold l e × Meaning s.formula.value e)
 all_hold_more [] s e = (λ h. (tt, h.0), λ h. (h.1, tt))
 all_hold_more (t ∷ l) s e =
     let rest = all_hold_more l s e in
@@ -84,9 +84,9 @@ written_where [] n s t l m is w = w
 written_where (Declares sort names ∷ items) n s t l m is w = written_where items (count n names.items) _ _ l m (λ e. ap (λ c. declare sort names.items n e c) (is e)) w
 written_where (defined p ∷ items) n s t l m is w = written_where items n _ _ l m (λ e. ap (λ c. define p c) (is e)) w
 written_where (Assert a ∷ items) n s t [] m is w = w
-written_where (Assert a ∷ items) n s t (x ∷ l) m is w = ((w.0.0, λ e. subst (λ c. Meaning x.formula e ↔ holds a.kind c) (is e) (w.0.1 e)), written_where items n s t l m is w.1)
+written_where (Assert a ∷ items) n s t (x ∷ l) m is w = ((w.0.0, λ e. subst (λ c. Meaning x.formula.value e ↔ holds a.kind c) (is e) (w.0.1 e)), written_where items n s t l m is w.1)
 written_where (Formula a ∷ items) n s t l [] is w = w
-written_where (Formula a ∷ items) n s t l (x ∷ m) is w = ((w.0.0, λ e. subst (λ c. Meaning x.formula e ↔ holds a.kind c) (is e) (w.0.1 e)), written_where items n s t l m is w.1)
+written_where (Formula a ∷ items) n s t l (x ∷ m) is w = ((w.0.0, λ e. subst (λ c. Meaning x.formula.value e ↔ holds a.kind c) (is e) (w.0.1 e)), written_where items n s t l m is w.1)
 
 -- the same is written where the names stand for the same and the count is the same
 pub written_same : (items : List Item) (j n : ℕ) (s t : Env → Context) → j ≡ n → ((e : Env) → s e ≡ t e) → (l m : List Stated) → Written items j s l m → Written items n t l m

@@ -4,15 +4,12 @@ use Rattle.std.proofs.lemmas.Bool.Decides.{eqb_tells}
 use Rattle.trees.specs.declared.tree.Name.{Name}
 use Rattle.trees.specs.declared.tree.ExprKind.{ExprKind}
 use Rattle.formulas.specs.Meaning.{Env, with_place, with_group}
-use Rattle.formulas.specs.declared.formula.Place.TheVariants.{Named as place_named}
-use Rattle.formulas.specs.declared.formula.Group.TheVariants.{Named as group_named}
 use Rattle.trees.specs.declared.tree.Sort.{Sort}
 use Rattle.trees.specs.declared.tree.Sort.TheVariants.{Place as OfPlace, Set as OfSet}
 use Rattle.trees.specs.declared.tree.Quantifier.{Quantifier}
 use Rattle.trees.specs.declared.tree.Quantifier.TheVariants.{Some, All}
 use Rattle.resolve.specs.Says.{Context, value, place, set, bind, define, given, quantified}
 use Rattle.resolve.specs.declared.scope.Term.{Term}
-use Rattle.resolve.specs.declared.scope.Term.TheVariants.{Place, Set}
 use Rattle.resolve.specs.declared.scope.Scope.{Scope}
 use Rattle.resolve.specs.declared.scope.Scope.TheVariants.{Outermost, Named', Defined'}
 use Rattle.resolve.specs.Scopes.{meant, context, Agree, Settled, Steady, OverAll}
@@ -34,12 +31,6 @@ pub steady_more : (n : ℕ) (s : Scope) → Steady n s → Steady (suc n) s
 steady_more n Outermost h = tt
 steady_more n (Named' x t _ outer) h = (λ e f a. h.0 e f (wider n e f a), steady_more n outer h.1)
 steady_more n (Defined' p _ outer) h = steady_more n outer h
-
-pub settled_place : (n : ℕ) → Settled (suc n) (Place (place_named n))
-settled_place n = λ e f a. ap place (a n (omega arith)).0
-
-pub settled_set : (n : ℕ) → Settled (suc n) (Set (group_named n))
-settled_set n = λ e f a. ap set (a n (omega arith)).1
 
 other : {A : Type 0} (x n : ℕ) (a b : A) → x < n → cond (x == n) a b ≡ b
 other x n a b l = elim (eqb_tells x n) [ inl q ↦ (let e = q.1 in absurd (omega arith)) | inr q ↦ rw q.0 refl ]

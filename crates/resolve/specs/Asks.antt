@@ -24,11 +24,11 @@ free l = map (λ f. (f.name.now, f.sort)) l
 
 abbrev pub all_hold : List Stated → Env → Type 0
 all_hold [] e = Unit {0}
-all_hold (s ∷ l) e = Meaning s.formula e × all_hold l e
+all_hold (s ∷ l) e = Meaning s.formula.value e × all_hold l e
 
 -- this expression, and a formula that is true of exactly the places and sets of which it holds where the names stand for what s says
 abbrev pub Renders : Stated → Expr → (Env → Context) → Type 0
-Renders x a s = (x.expr.now ≡ a) × ((e : Env) → Meaning x.formula e ↔ holds a.kind (s e))
+Renders x a s = (x.expr.now ≡ a) × ((e : Env) → Meaning x.formula.value e ↔ holds a.kind (s e))
 
 -- the assumptions and the claims of the items, one after the other, where the names before them stand for what s says and the declared ones are numbered from n on
 abbrev pub Written : List Item → ℕ → (Env → Context) → List Stated → List Stated → Type 0

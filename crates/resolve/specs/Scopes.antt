@@ -14,8 +14,8 @@ use Rattle.resolve.specs.declared.scope.Scope.TheVariants.{Outermost, Named', De
 
 -- what a term over numbers stands for
 abbrev pub meant : Term → Env → Value
-meant (Place t) e = place (value t e)
-meant (Set t) e = set (members t e)
+meant (Place t) e = place (value t.value e)
+meant (Set t) e = set (members t.value e)
 
 abbrev pub context : Scope → Env → Context
 context Outermost e = nothing

@@ -20,7 +20,7 @@ use trees::tree::{Expr, Item, Name, Parameter, Sort};
 #[derive(Drop)]
 pub struct Stated<'a> {
     pub expr: &'a Expr,
-    pub formula: Formula,
+    pub formula: Box<Formula>,
 }
 
 /// The names that a text declares, what it assumes of them and what it claims.
@@ -64,7 +64,7 @@ impl Resolver {
         let Some(next) = level.checked_add(1) else {
             return Err(Fault::Deep(parameter.name.span));
         };
-        let term = numbered(parameter.sort, level);
+        let term = numbered(self.heap, parameter.sort, level)?;
         let inside = Scope::Named(&parameter.name, &term, &*scope);
         self.check(others, &*body, &inside, next, calls)
     }
@@ -155,7 +155,7 @@ impl Resolver {
             return Err(Fault::Deep(name.span));
         };
         asked.free.push(Free { name, sort })?;
-        let term = numbered(sort, level);
+        let term = numbered(self.heap, sort, level)?;
         let inside = Scope::Named(name, &term, &*scope);
         self.names(asked, sort, others, rest, span, &inside, next, calls)
     }

@@ -7,7 +7,7 @@ ghost use Rattle.resolve.specs.Scopes.{context, signature};
 ghost use Rattle.resolve.specs.Faults.{Faulty, IsLimit, Connects, class_of, side};
 ghost use Rattle.resolve.specs.declared.fault.Class.{Class};
 
-use crate::built::{and, negation};
+use crate::built::{and, less, lies_in, negation, same, sub};
 use crate::fault::{Class, Fault};
 use crate::scope::{Scope, Term};
 use crate::terms::Resolver;
@@ -22,14 +22,14 @@ impl Resolver {
         b: &Expr,
         scope: &Scope<'_>,
         calls: u32,
-    ) -> Result<Formula, Fault>
-        ensures says { IfOk result (λ f. (e : Env) → let s = context scope.now e in Meaning f e ↔ ((i : ℕ) → has (set_of (value a.now.kind s)) i ≡ true → has (set_of (value b.now.kind s)) i ≡ true)) }
+    ) -> Result<Box<Formula>, Fault>
+        ensures says { IfOk result (λ f. (e : Env) → let s = context scope.now e in Meaning f.value e ↔ ((i : ℕ) → has (set_of (value a.now.kind s)) i ≡ true → has (set_of (value b.now.kind s)) i ≡ true)) }
         ensures sets { IfOk result (λ f. (e : Env) → IsSet (value a.now.kind (context scope.now e)) × IsSet (value b.now.kind (context scope.now e))) }
         ensures faults { IfErr result (λ f. IsLimit f ⊎ (Faulty (signature scope.now) Class.Set a.now f ⊎ Faulty (signature scope.now) Class.Set b.now f)) }
     {
         let a = self.group(a, scope, calls)?;
         let b = self.group(b, scope, calls)?;
-        Ok(Formula::Sub(a, b))
+        Ok(sub(self.heap, a, b)?)
     }
 
     // A place before another.
@@ -39,13 +39,13 @@ impl Resolver {
         b: &Expr,
         scope: &Scope<'_>,
         calls: u32,
-    ) -> Result<Formula, Fault>
-        ensures says { IfOk result (λ f. (e : Env) → let s = context scope.now e in Meaning f e ↔ (place_of (value a.now.kind s) < place_of (value b.now.kind s))) }
+    ) -> Result<Box<Formula>, Fault>
+        ensures says { IfOk result (λ f. (e : Env) → let s = context scope.now e in Meaning f.value e ↔ (place_of (value a.now.kind s) < place_of (value b.now.kind s))) }
         ensures faults { IfErr result (λ f. IsLimit f ⊎ (Faulty (signature scope.now) Class.Place a.now f ⊎ Faulty (signature scope.now) Class.Place b.now f)) }
     {
         let a = self.place(a, scope, calls)?;
         let b = self.place(b, scope, calls)?;
-        Ok(Formula::Less(a, b))
+        Ok(less(self.heap, a, b)?)
     }
 
     // A place in a set.
@@ -55,24 +55,30 @@ impl Resolver {
         b: &Expr,
         scope: &Scope<'_>,
         calls: u32,
-    ) -> Result<Formula, Fault>
-        ensures says { IfOk result (λ f. (e : Env) → let s = context scope.now e in Meaning f e ↔ (has (set_of (value b.now.kind s)) (place_of (value a.now.kind s)) ≡ true)) }
+    ) -> Result<Box<Formula>, Fault>
+        ensures says { IfOk result (λ f. (e : Env) → let s = context scope.now e in Meaning f.value e ↔ (has (set_of (value b.now.kind s)) (place_of (value a.now.kind s)) ≡ true)) }
         ensures faults { IfErr result (λ f. IsLimit f ⊎ (Faulty (signature scope.now) Class.Place a.now f ⊎ Faulty (signature scope.now) Class.Set b.now f)) }
     {
         let a = self.place(a, scope, calls)?;
         let b = self.group(b, scope, calls)?;
-        Ok(Formula::In(a, b))
+        Ok(lies_in(self.heap, a, b)?)
     }
 
     // Two places that are the same, or two sets.
-    fn equal(&mut self, a: &Expr, b: &Expr, scope: &Scope<'_>, calls: u32) -> Result<Formula, Fault>
-        ensures says { IfOk result (λ f. (e : Env) → let s = context scope.now e in Meaning f e ↔ Same (value a.now.kind s) (value b.now.kind s)) }
+    fn equal(
+        &mut self,
+        a: &Expr,
+        b: &Expr,
+        scope: &Scope<'_>,
+        calls: u32,
+    ) -> Result<Box<Formula>, Fault>
+        ensures says { IfOk result (λ f. (e : Env) → let s = context scope.now e in Meaning f.value e ↔ Same (value a.now.kind s) (value b.now.kind s)) }
         ensures faults { IfErr result (λ f. let sides = side (class_of (signature scope.now) a.now.kind) in IsLimit f ⊎ (Faulty (signature scope.now) sides a.now f ⊎ Faulty (signature scope.now) sides b.now f)) }
     {
         match self.term(Class::Place, a, scope, calls)? {
             Term::Place(first) => {
                 let second = self.place(b, scope, calls)?;
-                Ok(Formula::Same(first, second))
+                Ok(same(self.heap, first, second)?)
             }
             Term::Set(_) => {
                 let first = self.within(a, b, scope, calls)?;
@@ -83,12 +89,13 @@ impl Resolver {
     }
 
     // A set without places.
-    fn emptied(&mut self, a: &Expr, scope: &Scope<'_>, calls: u32) -> Result<Formula, Fault>
-        ensures says { IfOk result (λ f. (e : Env) → Meaning f e ↔ ((i : ℕ) → has (set_of (value a.now.kind (context scope.now e))) i ≡ true → ⊥)) }
+    fn emptied(&mut self, a: &Expr, scope: &Scope<'_>, calls: u32) -> Result<Box<Formula>, Fault>
+        ensures says { IfOk result (λ f. (e : Env) → Meaning f.value e ↔ ((i : ℕ) → has (set_of (value a.now.kind (context scope.now e))) i ≡ true → ⊥)) }
         ensures faults { IfErr result (λ f. IsLimit f ⊎ Faulty (signature scope.now) Class.Set a.now f) }
     {
         let set = self.group(a, scope, calls)?;
-        Ok(Formula::Sub(set, Group::Empty))
+        let empty = Box::new(self.heap, Group::Empty)?;
+        Ok(sub(self.heap, set, empty)?)
     }
 
     // What is at fault where a formula is wanted and a term stands: the term, or else that it is one.
@@ -106,8 +113,13 @@ impl Resolver {
     ///
     /// # Errors
     /// A limit; or, unless the expression is made of formulas, a fault that it has where a formula is wanted.
-    pub fn compared(&mut self, expr: &Expr, scope: &Scope<'_>, calls: u32) -> Result<Formula, Fault>
-        ensures says { IfOk result (λ f. (e : Env) → Meaning f e ↔ holds expr.now.kind (context scope.now e)) }
+    pub fn compared(
+        &mut self,
+        expr: &Expr,
+        scope: &Scope<'_>,
+        calls: u32,
+    ) -> Result<Box<Formula>, Fault>
+        ensures says { IfOk result (λ f. (e : Env) → Meaning f.value e ↔ holds expr.now.kind (context scope.now e)) }
         ensures faults { IfErr result (λ f. IsLimit f ⊎ ((Connects expr.now.kind → ⊥) → Faulty (signature scope.now) Class.Formula expr.now f)) }
     {
         match &expr.kind {

@@ -12,8 +12,8 @@ use trees::tree::{Name, Predicate, Sort};
 /// A place or a set, over names that are numbers.
 #[derive(Drop)]
 pub enum Term {
-    Place(Place),
-    Set(Group),
+    Place(Box<Place>),
+    Set(Box<Group>),
 }
 
 /// The names and predicates that are known at a part of a text, the innermost first.

@@ -15,15 +15,15 @@ use formulas::formula::{Formula, Group, Place};
 use std::alloc::{AllocError, Global};
 use trees::tree::{Binary, Expr, ExprKind, Name, Parameter, Quantifier, Sort, Unary};
 
-/// The term of a name with a number.
-pub fn numbered(sort: Sort, number: u32) -> Term
-    ensures means { (e : Env) → meant result e ≡ given sort number e }
-    ensures settled { Settled (number + 1) result }
-    ensures sorts { term_sort result ≡ sort }
+/// The term of a name with a number. Fails only for want of memory.
+pub fn numbered(heap: Global, sort: Sort, number: u32) -> Result<Term, AllocError>
+    ensures means { IfOk result (λ t. (e : Env) → meant t e ≡ given sort number e) }
+    ensures settled { IfOk result (λ t. Settled (number + 1) t) }
+    ensures sorts { IfOk result (λ t. term_sort t ≡ sort) }
 {
     match sort {
-        Sort::Place => Term::Place(Place::Named(number)),
-        Sort::Set => Term::Set(Group::Named(number)),
+        Sort::Place => Ok(Term::Place(Box::new(heap, Place::Named(number))?)),
+        Sort::Set => Ok(Term::Set(Box::new(heap, Group::Named(number))?)),
     }
 }
 
@@ -33,9 +33,9 @@ fn over(
     quantifier: Quantifier,
     sort: Sort,
     number: u32,
-    formula: Formula,
-) -> Result<Formula, AllocError>
-    ensures { IfOk result (λ f. (e : Env) → Meaning f e ↔ OverAll quantifier sort number (λ z. Meaning formula z) e) }
+    formula: Box<Formula>,
+) -> Result<Box<Formula>, AllocError>
+    ensures { IfOk result (λ f. (e : Env) → Meaning f.value e ↔ OverAll quantifier sort number (λ z. Meaning formula.value z) e) }
 {
     match (quantifier, sort) {
         (Quantifier::Some, Sort::Place) => some_place(heap, number, formula),
@@ -57,16 +57,19 @@ impl Resolver {
         scope: &'s Scope<'s>,
         level: u32,
         calls: u32,
-    ) -> Result<Formula, Fault>
+    ) -> Result<Box<Formula>, Fault>
         requires { Steady level scope.now }
-        ensures says { IfOk result (λ f. (e : Env) → Meaning f e ↔ holds expr.now.kind (context scope.now e)) }
+        ensures says { IfOk result (λ f. (e : Env) → Meaning f.value e ↔ holds expr.now.kind (context scope.now e)) }
         ensures faults { IfErr result (λ f. IsLimit f ⊎ Faulty (signature scope.now) Class.Formula expr.now f) }
     {
         let calls = inner(calls, expr.span)?;
         self.spend(expr.span)?;
         match &expr.kind {
-            ExprKind::True => Ok(Formula::True),
-            ExprKind::False => Ok(negation(self.heap, Formula::True)?),
+            ExprKind::True => Ok(Box::new(self.heap, Formula::True)?),
+            ExprKind::False => {
+                let holds = Box::new(self.heap, Formula::True)?;
+                Ok(negation(self.heap, holds)?)
+            }
             ExprKind::Unary(sign, a) => match sign {
                 Unary::Not => {
                     let a = self.formula(a, scope, level, calls)?;
@@ -126,9 +129,9 @@ impl Resolver {
         scope: &'s Scope<'s>,
         level: u32,
         calls: u32,
-    ) -> Result<Formula, Fault>
+    ) -> Result<Box<Formula>, Fault>
         requires { Steady level scope.now }
-        ensures says { IfOk result (λ f. (e : Env) → Meaning f e ↔ (holds a.now.kind (context scope.now e) → holds b.now.kind (context scope.now e))) }
+        ensures says { IfOk result (λ f. (e : Env) → Meaning f.value e ↔ (holds a.now.kind (context scope.now e) → holds b.now.kind (context scope.now e))) }
         ensures faults { IfErr result (λ f. IsLimit f ⊎ (Faulty (signature scope.now) Class.Formula a.now f ⊎ Faulty (signature scope.now) Class.Formula b.now f)) }
     {
         let calls = inner(calls, a.span)?;
@@ -148,9 +151,9 @@ impl Resolver {
         scope: &'s Scope<'s>,
         level: u32,
         calls: u32,
-    ) -> Result<Formula, Fault>
+    ) -> Result<Box<Formula>, Fault>
         requires { Steady level scope.now }
-        ensures says { IfOk result (λ f. (e : Env) → Meaning f e ↔ quantified quantifier sort names.now (λ z. holds body.now.kind z) (context scope.now e)) }
+        ensures says { IfOk result (λ f. (e : Env) → Meaning f.value e ↔ quantified quantifier sort names.now (λ z. holds body.now.kind z) (context scope.now e)) }
         ensures faults { IfErr result (λ f. IsLimit f ⊎ Faulty (with_names sort names.now (signature scope.now)) Class.Formula body.now f) }
     {
         let calls = inner(calls, body.span)?;
@@ -161,7 +164,7 @@ impl Resolver {
         let Some(next) = level.checked_add(1) else {
             return Err(Fault::Deep(first.span));
         };
-        let term = numbered(sort, level);
+        let term = numbered(self.heap, sort, level)?;
         let inside = Scope::Named(first, &term, &*scope);
         let formula = self.bound(quantifier, sort, others, &*body, &inside, next, calls)?;
         Ok(over(self.heap, quantifier, sort, level, formula)?)
@@ -178,10 +181,10 @@ impl Resolver {
         around: &'s Scope<'s>,
         level: u32,
         calls: u32,
-    ) -> Result<Formula, Fault>
+    ) -> Result<Box<Formula>, Fault>
         requires inside { Steady level scope.now }
         requires outside { Steady level around.now }
-        ensures says { IfOk result (λ f. (e : Env) → Meaning f e ↔ holds body.now.kind (bind_all parameters.now (map (λ a. value a.kind (context around.now e)) arguments.now) (context scope.now e))) }
+        ensures says { IfOk result (λ f. (e : Env) → Meaning f.value e ↔ holds body.now.kind (bind_all parameters.now (map (λ a. value a.kind (context around.now e)) arguments.now) (context scope.now e))) }
         ensures faults { IfErr result (λ f. IsLimit f ⊎ (length parameters.now ≡ length arguments.now → ((c : Class) × ((a : Expr) × (Among (c, a) (as_parameters parameters.now arguments.now) × Faulty (signature around.now) c a f))) ⊎ Faulty (with_parameters parameters.now (signature scope.now)) Class.Formula body.now f)) }
     {
         let calls = inner(calls, body.span)?;

@@ -64,14 +64,14 @@ impl Resolver {
     }
 
     #[cycle(copying)]
-    fn copied_place(&mut self, place: &Place, span: Span) -> Result<Place, Fault>
-        ensures means { IfOk result (λ t. (e : Env) → Meaning.value t e ≡ Meaning.value place.now e) }
+    fn copied_place(&mut self, place: &Place, span: Span) -> Result<Box<Place>, Fault>
+        ensures means { IfOk result (λ t. (e : Env) → Meaning.value t.value e ≡ Meaning.value place.now e) }
         ensures faults { IfErr result (λ f. IsLimit f) }
     {
         self.spend(span)?;
         match place {
-            Place::Named(x) => Ok(Place::Named(*x)),
-            Place::First => Ok(Place::First),
+            Place::Named(x) => Ok(Box::new(self.heap, Place::Named(*x))?),
+            Place::First => Ok(Box::new(self.heap, Place::First)?),
             Place::Succ(inner) => {
                 let inner = self.copied_place(inner, span)?;
                 Ok(succ(self.heap, inner)?)
@@ -92,14 +92,14 @@ impl Resolver {
     }
 
     #[cycle(copying)]
-    fn copied_group(&mut self, group: &Group, span: Span) -> Result<Group, Fault>
-        ensures means { IfOk result (λ t. (e : Env) → members t e ≡ members group.now e) }
+    fn copied_group(&mut self, group: &Group, span: Span) -> Result<Box<Group>, Fault>
+        ensures means { IfOk result (λ t. (e : Env) → members t.value e ≡ members group.now e) }
         ensures faults { IfErr result (λ f. IsLimit f) }
     {
         self.spend(span)?;
         match group {
-            Group::Named(x) => Ok(Group::Named(*x)),
-            Group::Empty => Ok(Group::Empty),
+            Group::Named(x) => Ok(Box::new(self.heap, Group::Named(*x))?),
+            Group::Empty => Ok(Box::new(self.heap, Group::Empty)?),
             Group::Only(place) => {
                 let place = self.copied_place(place, span)?;
                 Ok(only(self.heap, place)?)
@@ -134,8 +134,8 @@ impl Resolver {
     }
 
     // The place n further on.
-    fn further(&mut self, place: Place, n: u32, span: Span) -> Result<Place, Fault>
-        ensures means { IfOk result (λ t. (e : Env) → Meaning.value t e ≡ Meaning.value place e + n) }
+    fn further(&mut self, place: Box<Place>, n: u32, span: Span) -> Result<Box<Place>, Fault>
+        ensures means { IfOk result (λ t. (e : Env) → Meaning.value t.value e ≡ Meaning.value place.value e + n) }
         ensures faults { IfErr result (λ f. IsLimit f) }
     {
         let mut moved = place;
@@ -147,8 +147,8 @@ impl Resolver {
     }
 
     // The place n before, but not before place 0.
-    fn back(&mut self, place: Place, n: u32, span: Span) -> Result<Place, Fault>
-        ensures means { IfOk result (λ t. (e : Env) → Meaning.value t e ≡ Meaning.value place e - n) }
+    fn back(&mut self, place: Box<Place>, n: u32, span: Span) -> Result<Box<Place>, Fault>
+        ensures means { IfOk result (λ t. (e : Env) → Meaning.value t.value e ≡ Meaning.value place.value e - n) }
         ensures faults { IfErr result (λ f. IsLimit f) }
     {
         let mut moved = place;
@@ -191,8 +191,11 @@ impl Resolver {
         self.spend(expr.span)?;
         match &expr.kind {
             ExprKind::Named(name) => self.name(name, scope),
-            ExprKind::Number(n) => Ok(Term::Place(self.further(Place::First, *n, expr.span)?)),
-            ExprKind::Empty => Ok(Term::Set(Group::Empty)),
+            ExprKind::Number(n) => {
+                let first = Box::new(self.heap, Place::First)?;
+                Ok(Term::Place(self.further(first, *n, expr.span)?))
+            }
+            ExprKind::Empty => Ok(Term::Set(Box::new(self.heap, Group::Empty)?)),
             ExprKind::Listed(all) => Ok(Term::Set(self.listed(all, scope, calls)?)),
             ExprKind::Unary(sign, a) => match sign {
                 Unary::Min => {
@@ -242,8 +245,8 @@ impl Resolver {
     /// # Errors
     /// A limit, or a fault that the expression has where a place is wanted.
     #[cycle(terms)]
-    pub fn place(&mut self, expr: &Expr, scope: &Scope<'_>, calls: u32) -> Result<Place, Fault>
-        ensures means { IfOk result (λ t. (e : Env) → value expr.now.kind (context scope.now e) ≡ place (Meaning.value t e)) }
+    pub fn place(&mut self, expr: &Expr, scope: &Scope<'_>, calls: u32) -> Result<Box<Place>, Fault>
+        ensures means { IfOk result (λ t. (e : Env) → value expr.now.kind (context scope.now e) ≡ place (Meaning.value t.value e)) }
         ensures faults { IfErr result (λ f. IsLimit f ⊎ Faulty (signature scope.now) Class.Place expr.now f) }
     {
         let calls = inner(calls, expr.span)?;
@@ -258,8 +261,8 @@ impl Resolver {
     /// # Errors
     /// A limit, or a fault that the expression has where a set is wanted.
     #[cycle(terms)]
-    pub fn group(&mut self, expr: &Expr, scope: &Scope<'_>, calls: u32) -> Result<Group, Fault>
-        ensures means { IfOk result (λ t. (e : Env) → value expr.now.kind (context scope.now e) ≡ set (members t e)) }
+    pub fn group(&mut self, expr: &Expr, scope: &Scope<'_>, calls: u32) -> Result<Box<Group>, Fault>
+        ensures means { IfOk result (λ t. (e : Env) → value expr.now.kind (context scope.now e) ≡ set (members t.value e)) }
         ensures faults { IfErr result (λ f. IsLimit f ⊎ Faulty (signature scope.now) Class.Set expr.now f) }
     {
         let calls = inner(calls, expr.span)?;
@@ -271,12 +274,12 @@ impl Resolver {
 
     // The set of the places of a list.
     #[cycle(terms)]
-    fn listed(&mut self, all: &[Expr], scope: &Scope<'_>, calls: u32) -> Result<Group, Fault>
-        ensures means { IfOk result (λ t. (e : Env) → each_place (map (λ a. value a.kind (context scope.now e)) all.now) ≡ members t e) }
+    fn listed(&mut self, all: &[Expr], scope: &Scope<'_>, calls: u32) -> Result<Box<Group>, Fault>
+        ensures means { IfOk result (λ t. (e : Env) → each_place (map (λ a. value a.kind (context scope.now e)) all.now) ≡ members t.value e) }
         ensures faults { IfErr result (λ f. IsLimit f ⊎ ((a : Expr) × (Among (Class.Place, a) (each_of Class.Place all.now) × Faulty (signature scope.now) Class.Place a f))) }
     {
         let [first, others @ ..] = all else {
-            return Ok(Group::Empty);
+            return Ok(Box::new(self.heap, Group::Empty)?);
         };
         let calls = inner(calls, first.span)?;
         let place = self.place(first, scope, calls)?;

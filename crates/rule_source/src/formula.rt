@@ -162,8 +162,8 @@ fn are_one(items: &[Item], names: &[String]) -> bool
 }
 
 // The one formula of which claims are, if it is one.
-fn only(claimed: Vec<Stated<'_>>) -> Option<Formula>
-    ensures { IfSome result (λ f. (e : Env) → Meaning f e ↔ all_hold claimed.entry.items e) }
+fn only(claimed: Vec<Stated<'_>>) -> Option<Box<Formula>>
+    ensures { IfSome result (λ f. (e : Env) → Meaning f.value e ↔ all_hold claimed.entry.items e) }
 {
     let mut others = claimed;
     let last = others.pop()?;
@@ -175,8 +175,12 @@ fn only(claimed: Vec<Stated<'_>>) -> Option<Formula>
 }
 
 // What is claimed in the items, if it is one formula.
-fn claimed_in(alloc: Global, composed: &Composed, items: &[Item]) -> Result<Option<Formula>, Fault>
-    ensures { IfOk result (λ o. IfSome o (λ f. (e : Env) → Meaning f e ↔ (text_of items.now e).claimed)) }
+fn claimed_in(
+    alloc: Global,
+    composed: &Composed,
+    items: &[Item],
+) -> Result<Option<Box<Formula>>, Fault>
+    ensures { IfOk result (λ o. IfSome o (λ f. (e : Env) → Meaning f.value e ↔ (text_of items.now e).claimed)) }
 {
     match ask(alloc, items) {
         Ok(asked) => Ok(only(asked.claimed)),
@@ -190,8 +194,8 @@ pub fn formula_of(
     bits: &Bits<'_>,
     about: About,
     formula: Token,
-) -> Result<Formula, Fault>
-    ensures { IfOk result (λ f. FormulaOf bits.now about formula f) }
+) -> Result<Box<Formula>, Fault>
+    ensures { IfOk result (λ f. FormulaOf bits.now about formula f.value) }
 {
     let names = sets_of(alloc, bits, about)?;
     let composed = compose(alloc, bits, &names, formula)?;

@@ -81,8 +81,8 @@ impl Reading {
             Statement::Never(_, _) | Statement::Claim(_, _) => {}
             Statement::Pattern(pattern) => self.allowed.push(pattern_of(alloc, bits, pattern)?)?,
             Statement::Limit(_, formula) => {
-                self.limits
-                    .push(formula_of(alloc, bits, About::Row, *formula)?)?
+                let limit = formula_of(alloc, bits, About::Row, *formula)?;
+                self.limits.push(Box::into_inner(limit))?
             }
             Statement::Line(when, _, effects) => {
                 let span = pattern_span(when);

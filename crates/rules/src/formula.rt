@@ -27,7 +27,7 @@ fn bound_claim(
     ensures { IfOk result (λ c. said c ≡ claim formula.now (bound n (number_of x.now) (scope_number scope.now))) }
 {
     if n == 0 {
-        return translate(alloc, formula, scope);
+        return Ok(Box::into_inner(translate(alloc, formula, scope)?));
     }
     let j = n - 1;
     let inner = Scope::Bound(Name::OfGroup(j as u32), x.of_bit(j) as usize, &*scope);

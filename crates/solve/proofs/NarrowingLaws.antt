@@ -8,7 +8,7 @@ use Rattle.formulas.specs.declared.name.Name.{Name}
 use Rattle.formulas.specs.declared.formula.Formula.{Formula}
 use Rattle.formula_claims.specs.Claimed.{Claimed, Refused, whole, sets_needed}
 use Rattle.formula_claims.specs.declared.claimed.Refusal.TheVariants.{Unlisted, Claim}
-use Rattle.resolve.specs.Parts.{Piece}
+use Rattle.parts.specs.Parts.{Piece}
 use Rattle.solve.specs.Telling.{Tells}
 use Rattle.solve.specs.Narrowing.{own_names, IsLarge, IsSmall, AllSmall}
 use Rattle.first_word.specs.declared.first_word.Found.TheVariants.{Nothing, First, TooLarge}

@@ -10,8 +10,8 @@ use Rattle.trees.specs.declared.position.Span.{Span}
 use Rattle.trees.specs.declared.tree.Item.{Item}
 use Rattle.resolve.specs.Asks.{Asks}
 use Rattle.resolve.specs.Faults.{Among}
-use Rattle.resolve.specs.Parts.{Piece, Within, piece_of, parts, statements}
-use Rattle.resolve.specs.declared.narrow.Part.{Part}
+use Rattle.parts.specs.Parts.{Piece, Within, piece_of, parts, statements}
+use Rattle.parts.specs.declared.parts.Part.{Part}
 use Rattle.resolve.specs.declared.asked.Asked.{Asked}
 use Rattle.solve.specs.Telling.{IsWithin}
 

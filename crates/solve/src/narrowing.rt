@@ -1,6 +1,6 @@
 // Where too much is told apart: the innermost part of a text that is too large by itself.
 ghost use Rattle.std.specs.Prelude.{◌≡◌, map, IfOk, OnOk, MatchBool};
-ghost use Rattle.resolve.specs.Parts.{Within, piece_of, parts as parts_of, statements as statements_of};
+ghost use Rattle.parts.specs.Parts.{Within, piece_of, parts as parts_of, statements as statements_of};
 ghost use Rattle.solve.specs.Narrowing.{with_name, with_names, own_names, IsLarge, IsSmall, IsLargeOf, IsInnermost, NamesPart, Narrowest};
 
 use crate::first::first_row;
@@ -11,8 +11,8 @@ use formula_claims::claimed::{Refusal, claim_bytes};
 use formulas::formula::Formula;
 use formulas::free::free_names;
 use formulas::name::Name;
+use parts::parts::{Part, parts, statements};
 use resolve::asked::{Asked, ask};
-use resolve::narrow::{Part, parts, statements};
 use std::alloc::{AllocError, Global};
 use trees::position::Span;
 use trees::tree::Item;

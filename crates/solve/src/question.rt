@@ -42,12 +42,12 @@ fn push_names(names: &mut Vec<Name>, free: &[Free<'_>], number: u32) -> Result<(
 }
 
 // Formulas joined by *and*; of none it is *true*.
-fn joined(alloc: Global, all: Vec<Stated<'_>>) -> Result<Formula, AllocError>
-    ensures { IfOk result (λ f. (e : Env) → Meaning f e ↔ all_hold all.entry.items e) }
+fn joined(alloc: Global, all: Vec<Stated<'_>>) -> Result<Box<Formula>, AllocError>
+    ensures { IfOk result (λ f. (e : Env) → Meaning f.value e ↔ all_hold all.entry.items e) }
 {
     let mut front = all;
     let Some(last) = front.pop() else {
-        return Ok(Formula::True);
+        return Ok(Box::new(alloc, Formula::True)?);
     };
     if front.is_empty() {
         return Ok(last.formula);
@@ -57,8 +57,8 @@ fn joined(alloc: Global, all: Vec<Stated<'_>>) -> Result<Formula, AllocError>
 }
 
 // That the assumptions hold, and the claims, or not the claims.
-fn posed(alloc: Global, asked: Asked<'_>, opposite: bool) -> Result<Formula, AllocError>
-    ensures { IfOk result (λ f. (e : Env) → Meaning f e ↔ (all_hold asked.entry.assumed.items e × either opposite (all_hold asked.entry.claimed.items e → ⊥) (all_hold asked.entry.claimed.items e))) }
+fn posed(alloc: Global, asked: Asked<'_>, opposite: bool) -> Result<Box<Formula>, AllocError>
+    ensures { IfOk result (λ f. (e : Env) → Meaning f.value e ↔ (all_hold asked.entry.assumed.items e × either opposite (all_hold asked.entry.claimed.items e → ⊥) (all_hold asked.entry.claimed.items e))) }
 {
     let Asked {
         free: _,

@@ -10,7 +10,7 @@ ghost use Rattle.syntax.specs.Views.{Gives, view, view_all};
 
 use crate::fault::{Fault, Wanted};
 use crate::operators::tightness_of;
-use crate::part::{Listing, Part, call_of, called_alone, joined, leaf, lowest, set_of, within};
+use crate::part::{Listing, Part, call_of, called_alone, joined, leaf, lowest, set_of, whole};
 use crate::source::{Source, front, name, names, number, operator, span, token};
 use tokens::kind::Kind;
 use tokens::token::Token;
@@ -29,8 +29,8 @@ pub fn expression<'a>(
     lowest: u8,
 ) -> Result<(Part, &'a [Token]), Fault>
     requires known { length tokens.now ≤ source.now.count }
-    ensures gives { Gives (λ r. (view r.0.expr.kind, words source.now.text.now r.1.now)) result (parse source.now.count calls lowest (words source.now.text.now tokens.now)) }
-    ensures depth { IfOk result (λ r. r.0.depth ≡ depth (view r.0.expr.kind)) }
+    ensures gives { Gives (λ r. (view r.0.expr.value.kind, words source.now.text.now r.1.now)) result (parse source.now.count calls lowest (words source.now.text.now tokens.now)) }
+    ensures depth { IfOk result (λ r. r.0.depth ≡ depth (view r.0.expr.value.kind)) }
     ensures less { IfOk result (λ r. length r.1.now < length tokens.now) }
 {
     if calls == 0 {
@@ -54,8 +54,8 @@ fn operand<'a>(
     calls: u32,
 ) -> Result<(Part, &'a [Token]), Fault>
     requires known { length tokens.now ≤ source.now.count }
-    ensures gives { Gives (λ r. (view r.0.expr.kind, words source.now.text.now r.1.now)) result (operand (parse source.now.count calls) source.now.count (words source.now.text.now tokens.now)) }
-    ensures depth { IfOk result (λ r. r.0.depth ≡ depth (view r.0.expr.kind)) }
+    ensures gives { Gives (λ r. (view r.0.expr.value.kind, words source.now.text.now r.1.now)) result (operand (parse source.now.count calls) source.now.count (words source.now.text.now tokens.now)) }
+    ensures depth { IfOk result (λ r. r.0.depth ≡ depth (view r.0.expr.value.kind)) }
     ensures less { IfOk result (λ r. length r.1.now < length tokens.now) }
 {
     let [first, rest @ ..] = tokens else {
@@ -80,9 +80,9 @@ fn operand<'a>(
             named(source, name, rest, calls)
         }
         Kind::Empty => empty(source, at, rest, calls),
-        Kind::True => Ok((leaf(at, ExprKind::True), rest)),
-        Kind::False => Ok((leaf(at, ExprKind::False), rest)),
-        Kind::Number => Ok((leaf(at, ExprKind::Number(number(source, *first)?)), rest)),
+        Kind::True => leaf(source, at, ExprKind::True, rest),
+        Kind::False => leaf(source, at, ExprKind::False, rest),
+        Kind::Number => leaf(source, at, ExprKind::Number(number(source, *first)?), rest),
         _ => Err(Fault::Expected(Wanted::Operand, at)),
     }
 }
@@ -97,16 +97,14 @@ fn prefix<'a>(
     unary: Unary,
 ) -> Result<(Part, &'a [Token]), Fault>
     requires known { length tokens.now ≤ source.now.count }
-    ensures gives { Gives (λ r. (view r.0.expr.kind, words source.now.text.now r.1.now)) result (prefix (parse source.now.count calls) unary (lowest_of unary) (words source.now.text.now tokens.now)) }
-    ensures depth { IfOk result (λ r. r.0.depth ≡ depth (view r.0.expr.kind)) }
+    ensures gives { Gives (λ r. (view r.0.expr.value.kind, words source.now.text.now r.1.now)) result (prefix (parse source.now.count calls) unary (lowest_of unary) (words source.now.text.now tokens.now)) }
+    ensures depth { IfOk result (λ r. r.0.depth ≡ depth (view r.0.expr.value.kind)) }
     ensures less { IfOk result (λ r. length r.1.now < length tokens.now) }
 {
     let (inside, rest) = expression(source, tokens, calls, lowest(unary))?;
     let span = at.to(inside.expr.span);
-    let operand = Box::new(source.heap, inside.expr)?;
-    let kind = ExprKind::Unary(unary, operand);
-    let whole = within(at, Expr { kind, span }, inside.depth)?;
-    Ok((whole, rest))
+    let kind = ExprKind::Unary(unary, inside.expr);
+    whole(source, at, Expr { kind, span }, inside.depth, rest)
 }
 
 // What stands behind a quantifier: its names, and what is said of them.
@@ -119,19 +117,17 @@ fn bound<'a>(
     quantifier: (Quantifier, Sort),
 ) -> Result<(Part, &'a [Token]), Fault>
     requires known { length tokens.now ≤ source.now.count }
-    ensures gives { Gives (λ r. (view r.0.expr.kind, words source.now.text.now r.1.now)) result (quantified (parse source.now.count calls) source.now.count quantifier.0 quantifier.1 (words source.now.text.now tokens.now)) }
-    ensures depth { IfOk result (λ r. r.0.depth ≡ depth (view r.0.expr.kind)) }
+    ensures gives { Gives (λ r. (view r.0.expr.value.kind, words source.now.text.now r.1.now)) result (quantified (parse source.now.count calls) source.now.count quantifier.0 quantifier.1 (words source.now.text.now tokens.now)) }
+    ensures depth { IfOk result (λ r. r.0.depth ≡ depth (view r.0.expr.value.kind)) }
     ensures less { IfOk result (λ r. length r.1.now < length tokens.now) }
 {
     let (names, rest) = names(source, tokens)?;
     let (_, rest) = token(source, rest, Kind::Colon, Wanted::More(Kind::Colon))?;
     let (inside, rest) = expression(source, rest, calls, 0)?;
     let span = at.to(inside.expr.span);
-    let body = Box::new(source.heap, inside.expr)?;
     let (quantifier, sort) = quantifier;
-    let kind = ExprKind::Bound(quantifier, sort, names, body);
-    let whole = within(at, Expr { kind, span }, inside.depth)?;
-    Ok((whole, rest))
+    let kind = ExprKind::Bound(quantifier, sort, names, inside.expr);
+    whole(source, at, Expr { kind, span }, inside.depth, rest)
 }
 
 // What stands in parentheses, up to the one that closes them, and where that stands.
@@ -142,8 +138,8 @@ fn enclosed<'a>(
     calls: u32,
 ) -> Result<(Part, Span, &'a [Token]), Fault>
     requires known { length tokens.now ≤ source.now.count }
-    ensures gives { Gives (λ r. (view r.0.expr.kind, words source.now.text.now r.2.now)) result (paren_at (parse source.now.count calls) (words source.now.text.now tokens.now)) }
-    ensures depth { IfOk result (λ r. r.0.depth ≡ depth (view r.0.expr.kind)) }
+    ensures gives { Gives (λ r. (view r.0.expr.value.kind, words source.now.text.now r.2.now)) result (paren_at (parse source.now.count calls) (words source.now.text.now tokens.now)) }
+    ensures depth { IfOk result (λ r. r.0.depth ≡ depth (view r.0.expr.value.kind)) }
     ensures less { IfOk result (λ r. length r.2.now < length tokens.now) }
 {
     let (inside, rest) = expression(source, tokens, calls, 0)?;
@@ -167,11 +163,11 @@ fn list<'a>(
     let mut all = Vec::new(source.heap);
     let (first, mut rest) = expression(source, tokens, calls, 0)?;
     let mut depth = first.depth;
-    all.push(first.expr)?;
+    all.push(Box::into_inner(first.expr))?;
     while let Some((_, behind)) = front(source, rest, Kind::Comma) {
         let (further, more) = expression(source, behind, calls, 0)?;
         depth = depth.max(further.depth);
-        all.push(further.expr)?;
+        all.push(Box::into_inner(further.expr))?;
         rest = more;
     }
     let (end, rest) = token(source, rest, close, Wanted::End(close))?;
@@ -194,13 +190,12 @@ fn listed<'a>(
     calls: u32,
 ) -> Result<(Part, &'a [Token]), Fault>
     requires known { length tokens.now ≤ source.now.count }
-    ensures gives { Gives (λ r. (view r.0.expr.kind, words source.now.text.now r.1.now)) result (set_at (parse source.now.count calls) source.now.count (words source.now.text.now tokens.now)) }
-    ensures depth { IfOk result (λ r. r.0.depth ≡ depth (view r.0.expr.kind)) }
+    ensures gives { Gives (λ r. (view r.0.expr.value.kind, words source.now.text.now r.1.now)) result (set_at (parse source.now.count calls) source.now.count (words source.now.text.now tokens.now)) }
+    ensures depth { IfOk result (λ r. r.0.depth ≡ depth (view r.0.expr.value.kind)) }
     ensures less { IfOk result (λ r. length r.1.now < length tokens.now) }
 {
     let (list, rest) = list(source, tokens, calls, Kind::CloseSet)?;
-    let whole = set_of(at, list)?;
-    Ok((whole, rest))
+    set_of(source, at, list, rest)
 }
 
 // What stands behind a name: nothing, or a predicate's arguments.
@@ -212,12 +207,12 @@ fn named<'a>(
     calls: u32,
 ) -> Result<(Part, &'a [Token]), Fault>
     requires known { length tokens.now ≤ source.now.count }
-    ensures gives { Gives (λ r. (view r.0.expr.kind, words source.now.text.now r.1.now)) result (named_at (parse source.now.count calls) source.now.count (string_bytes name.text) (words source.now.text.now tokens.now)) }
-    ensures depth { IfOk result (λ r. r.0.depth ≡ depth (view r.0.expr.kind)) }
+    ensures gives { Gives (λ r. (view r.0.expr.value.kind, words source.now.text.now r.1.now)) result (named_at (parse source.now.count calls) source.now.count (string_bytes name.text) (words source.now.text.now tokens.now)) }
+    ensures depth { IfOk result (λ r. r.0.depth ≡ depth (view r.0.expr.value.kind)) }
     ensures less { IfOk result (λ r. length r.1.now ≤ length tokens.now) }
 {
     let Some((_, rest)) = front(source, tokens, Kind::Open) else {
-        return Ok((leaf(name.span, ExprKind::Named(name)), tokens));
+        return leaf(source, name.span, ExprKind::Named(name), tokens);
     };
     arguments(source, name, rest, calls)
 }
@@ -231,17 +226,16 @@ fn arguments<'a>(
     calls: u32,
 ) -> Result<(Part, &'a [Token]), Fault>
     requires known { length tokens.now ≤ source.now.count }
-    ensures gives { Gives (λ r. (view r.0.expr.kind, words source.now.text.now r.1.now)) result (arguments (parse source.now.count calls) source.now.count (string_bytes name.text) (words source.now.text.now tokens.now)) }
-    ensures depth { IfOk result (λ r. r.0.depth ≡ depth (view r.0.expr.kind)) }
+    ensures gives { Gives (λ r. (view r.0.expr.value.kind, words source.now.text.now r.1.now)) result (arguments (parse source.now.count calls) source.now.count (string_bytes name.text) (words source.now.text.now tokens.now)) }
+    ensures depth { IfOk result (λ r. r.0.depth ≡ depth (view r.0.expr.value.kind)) }
     ensures less { IfOk result (λ r. length r.1.now ≤ length tokens.now) }
 {
     if let Some((close, rest)) = front(source, tokens, Kind::Close) {
         let span = name.span.to(close);
-        return Ok((called_alone(source, name, span), rest));
+        return called_alone(source, name, span, rest);
     }
     let (list, rest) = list(source, tokens, calls, Kind::Close)?;
-    let whole = call_of(name, list)?;
-    Ok((whole, rest))
+    call_of(source, name, list, rest)
 }
 
 // `empty`, or `empty(X)`, from behind the word, which stands at `at`.
@@ -253,17 +247,15 @@ fn empty<'a>(
     calls: u32,
 ) -> Result<(Part, &'a [Token]), Fault>
     requires known { length tokens.now ≤ source.now.count }
-    ensures gives { Gives (λ r. (view r.0.expr.kind, words source.now.text.now r.1.now)) result (empty_at (parse source.now.count calls) (words source.now.text.now tokens.now)) }
-    ensures depth { IfOk result (λ r. r.0.depth ≡ depth (view r.0.expr.kind)) }
+    ensures gives { Gives (λ r. (view r.0.expr.value.kind, words source.now.text.now r.1.now)) result (empty_at (parse source.now.count calls) (words source.now.text.now tokens.now)) }
+    ensures depth { IfOk result (λ r. r.0.depth ≡ depth (view r.0.expr.value.kind)) }
     ensures less { IfOk result (λ r. length r.1.now ≤ length tokens.now) }
 {
     let Some((_, rest)) = front(source, tokens, Kind::Open) else {
-        return Ok((leaf(at, ExprKind::Empty), tokens));
+        return leaf(source, at, ExprKind::Empty, tokens);
     };
     let (inside, close, rest) = enclosed(source, rest, calls)?;
     let span = at.to(close);
-    let operand = Box::new(source.heap, inside.expr)?;
-    let kind = ExprKind::Unary(Unary::IsEmpty, operand);
-    let whole = within(at, Expr { kind, span }, inside.depth)?;
-    Ok((whole, rest))
+    let kind = ExprKind::Unary(Unary::IsEmpty, inside.expr);
+    whole(source, at, Expr { kind, span }, inside.depth, rest)
 }

@@ -104,35 +104,40 @@ impl Fault {
         }
     }
 
-    /// What was expected and what stands there, in words.
-    pub fn message(&self, heap: Global, text: &[u8]) -> Result<String, AllocError> {
-        let mut out = String::new(heap);
+    // The words of a message, behind what is there.
+    fn put(&self, out: &mut String, text: &[u8]) -> Result<(), AllocError> {
         match self {
             Fault::Expected(wanted, span) => {
                 if let Some(reason) = foreign_reason(span.of(text)) {
-                    put_found(&mut out, text, *span)?;
+                    put_found(out, text, *span)?;
                     out.push_str(": ")?;
-                    out.push_str(reason)?;
+                    out.push_str(reason)
                 } else {
                     out.push_str("expected ")?;
-                    put_wanted(&mut out, *wanted)?;
+                    put_wanted(out, *wanted)?;
                     out.push_str(", found ")?;
-                    put_found(&mut out, text, *span)?;
+                    put_found(out, text, *span)
                 }
             }
             Fault::Byte(span) => {
                 out.push_str("expected a name, a number or a sign, found ")?;
-                put_found(&mut out, text, *span)?;
+                put_found(out, text, *span)
             }
             Fault::LargeNumber(span) => {
                 out.push_str("expected a number of at most 1000, found ")?;
-                put_found(&mut out, text, *span)?;
+                put_found(out, text, *span)
             }
             Fault::Deep(_) => {
-                out.push_str("expected at most 1000 parts within one another, found more")?
+                out.push_str("expected at most 1000 parts within one another, found more")
             }
-            Fault::Memory => out.push_str("there is not enough memory")?,
+            Fault::Memory => out.push_str("there is not enough memory"),
         }
+    }
+
+    /// What was expected and what stands there, in words.
+    pub fn message(&self, heap: Global, text: &[u8]) -> Result<String, AllocError> {
+        let mut out = String::new(heap);
+        self.put(&mut out, text)?;
         Ok(out)
     }
 }

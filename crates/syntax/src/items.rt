@@ -13,9 +13,9 @@ use tokens::token::Token;
 use trees::tree::{Expr, Item, Parameter, Predicate, Sort};
 
 // An expression up to a semicolon.
-fn formula<'a>(source: &Source<'_>, tokens: &'a [Token]) -> Result<(Expr, &'a [Token]), Fault>
+fn formula<'a>(source: &Source<'_>, tokens: &'a [Token]) -> Result<(Box<Expr>, &'a [Token]), Fault>
     requires known { length tokens.now ≤ source.now.count }
-    ensures gives { Gives (λ r. (view r.0.kind, words source.now.text.now r.1.now)) result (formula_at (parse source.now.count source.now.open) (words source.now.text.now tokens.now)) }
+    ensures gives { Gives (λ r. (view r.0.value.kind, words source.now.text.now r.1.now)) result (formula_at (parse source.now.count source.now.open) (words source.now.text.now tokens.now)) }
     ensures less { IfOk result (λ r. length r.1.now < length tokens.now) }
 {
     let (part, rest) = expression(source, tokens, source.open, 0)?;
@@ -113,7 +113,7 @@ fn predicate<'a>(source: &Source<'_>, tokens: &'a [Token]) -> Result<(Item, &'a 
     let predicate = Predicate {
         name,
         parameters,
-        body,
+        body: Box::into_inner(body),
     };
     Ok((Item::Predicate(predicate), rest))
 }
@@ -148,11 +148,11 @@ fn item<'a>(source: &Source<'_>, tokens: &'a [Token]) -> Result<(Item, &'a [Toke
         Kind::Predicate => predicate(source, rest),
         Kind::Assert => {
             let (assumed, rest) = formula(source, rest)?;
-            Ok((Item::Assert(assumed), rest))
+            Ok((Item::Assert(Box::into_inner(assumed)), rest))
         }
         _ => {
             let (claimed, rest) = formula(source, tokens)?;
-            Ok((Item::Formula(claimed), rest))
+            Ok((Item::Formula(Box::into_inner(claimed)), rest))
         }
     }
 }

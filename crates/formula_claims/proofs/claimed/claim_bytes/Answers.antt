@@ -1,6 +1,7 @@
 use Rattle.std.proofs.Common.{◌≡◌, min, length, sym, ap, ◌∙◌, subst, arith}
 use Rattle.claims.specs.Claims.{C}
 use Rattle.claims.specs.Rows.{Claim}
+use Rattle.claims.specs.Trees.{said}
 use Rattle.claims.specs.Encoded as encoded
 use Rattle.formulas.specs.Names.{names, Among}
 use Rattle.translation.specs.Settles.{Covers}
@@ -19,4 +20,4 @@ returns c =
     let a = c.args.formula.now in
     let free : c.deref.result.now ≡ names a = c.deref.ensures.value ∙ c.in_ok-free.ensures in
     let covers : Covers l a = λ x h. c.in_default.ensures x (subst (Among x) (sym free) h) in
-    claimed l a c.in_ok-bytes.bytes.items covers (subst (λ (d : C). Claim c.in_ok-bytes.bytes.items (encoded.sets_needed (length l) d) d) c.in_ok-claim.ensures c.in_ok-bytes.ensures)
+    claimed l a c.in_ok-bytes.bytes.items covers (subst (λ (d : C). Claim c.in_ok-bytes.bytes.items (encoded.sets_needed (length l) d) d) (ap said c.deref-2.ensures ∙ c.in_ok-claim.ensures) c.in_ok-bytes.ensures)

@@ -1,4 +1,4 @@
-use Rattle.std.proofs.Common.{◌≡◌, ◌↔◌, List, ℕ, Option, IfSome, map, string_bytes, ap, subst, ◌∙◌}
+use Rattle.std.proofs.Common.{◌≡◌, ◌↔◌, List, ℕ, Option, Box, Global, IfSome, map, string_bytes, ap, subst, ◌∙◌}
 use Rattle.std.proofs.lemmas.Bool.{OnTrue_at}
 use Rattle.formulas.specs.Meaning.{Env, Meaning}
 use Rattle.formulas.specs.declared.formula.Formula.{Formula}
@@ -21,6 +21,6 @@ returns-in-Some c =
       read = subst (λ (t : List ℕ). IsReadAs t items) bytes c.in_ok-items.ensures;
       one = subst (λ (l : List Item). AreOne l (sets_of c.args.about b)) c.deref-2.ensures.value
           (subst (λ (l : List (List ℕ)). AreOne c.deref-2.result.now l) (ap (λ l. map (λ n. string_bytes n) l) c.deref-3.ensures.value ∙ sets) (OnTrue_at c.if-are_one.true c.are_one.ensures));
-      means = subst (λ (l : List Item). (e : Env) → Meaning c.in-Some.read e ↔ (text l e).claimed) c.deref-then-are_one.ensures.value
-          (subst (λ (o : Option Formula). IfSome o (λ f. (e : Env) → Meaning f e ↔ (text c.deref-then-are_one.result.now e).claimed)) c.in-Some.is c.in_ok-read.ensures);
+      means = subst (λ (l : List Item). (e : Env) → Meaning c.in-Some.read.value e ↔ (text l e).claimed) c.deref-then-are_one.ensures.value
+          (subst (λ (o : Option (Box Formula Global)). IfSome o (λ f. (e : Env) → Meaning f.value e ↔ (text c.deref-then-are_one.result.now e).claimed)) c.in-Some.is c.in_ok-read.ensures);
     }

@@ -1,5 +1,5 @@
-use Rattle.resolve.specs.Parts.{piece_of, itself, inside}
-use Rattle.resolve.proofs.PartsLaws.{parts_smaller}
+use Rattle.parts.specs.Parts.{piece_of, itself, inside}
+use Rattle.parts.proofs.PartsLaws.{parts_smaller}
 use Rattle.solve.proofs.narrowing.innermost.Goals as goal
 
 pub loop-inner-init : goal.loop-inner-init

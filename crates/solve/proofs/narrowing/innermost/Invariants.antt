@@ -1,5 +1,5 @@
-use Rattle.resolve.specs.Parts.{Within, piece_of}
-use Rattle.resolve.proofs.PartsLaws.{weight}
+use Rattle.parts.specs.Parts.{Within, piece_of}
+use Rattle.parts.proofs.PartsLaws.{weight}
 use Rattle.solve.specs.Narrowing.{IsLarge}
 use Rattle.solve.proofs.narrowing.innermost.Given as goal
 

@@ -1,5 +1,5 @@
 use Rattle.std.proofs.Common.{refl}
-use Rattle.resolve.specs.Parts.{piece_of}
+use Rattle.parts.specs.Parts.{piece_of}
 use Rattle.solve.proofs.narrowing.narrowest_of.Goals as goal
 
 pub returns-in_ok-innermost-in-Some : goal.returns-in_ok-innermost-in-Some

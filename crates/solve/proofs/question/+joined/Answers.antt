@@ -12,5 +12,5 @@ returns t c =
     let parts : c.args.all.items ≡ front ++ (c.in-Some.last ∷ []) = first_of (search (rules, c.in-Some.ensures.items), grind (arith, common_steps, c.in-Some.ensures.items, c.in-Some.ensures.rest)) in
     if_ok c.and.result _ _ (λ f h e.
     let both = iff_trans (h e) (iff_and (c.in_ok-whole.ensures e) (λ m. m, λ m. m)) in
-    let all = subst (λ l. all_hold l e ↔ (all_hold front e × Meaning c.in-Some.last.formula e)) (sym parts) (all_hold_more front c.in-Some.last e) in
+    let all = subst (λ l. all_hold l e ↔ (all_hold front e × Meaning c.in-Some.last.formula.value e)) (sym parts) (all_hold_more front c.in-Some.last e) in
     iff_trans both (iff_sym all)) c.and.ensures

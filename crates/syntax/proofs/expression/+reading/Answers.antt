@@ -20,7 +20,7 @@ expression-loop-binary-init t c =
     let n = c.args.source.now.count in
     let text = c.args.source.now.text.now in
     record {
-      steps = (n, omega (arith, c.requires.known, c.in_ok-left.ensures.less), opened n c.args.calls c.args.lowest (words text c.args.tokens.now) (view c.in_ok-left.left.expr.kind) (words text c.in_ok-left.rest.now) (omega (arith, c.if-calls-eq0.false)) c.in_ok-left.ensures.gives);
+      steps = (n, omega (arith, c.requires.known, c.in_ok-left.ensures.less), opened n c.args.calls c.args.lowest (words text c.args.tokens.now) (view c.in_ok-left.left.expr.value.kind) (words text c.in_ok-left.rest.now) (omega (arith, c.if-calls-eq0.false)) c.in_ok-left.ensures.gives);
       deep = c.in_ok-left.ensures.depth;
       less = c.in_ok-left.ensures.less;
     }
@@ -29,7 +29,7 @@ pub expression-loop-binary-preserved : goal.expression-loop-binary-preserved
 expression-loop-binary-preserved t c =
     let old = c.loop-binary.invariant.steps in
     let text = c.args.source.now.text.now in
-    let next = next_operator (parse c.args.source.now.count (c.args.calls - 1)) old.0 c.args.lowest c.tightness_of.result.right c.in-Some.binary (view c.loop-binary.left.expr.kind) (view c.in_ok-right.right.expr.kind) (view c.in_ok-left-2.left.expr.kind) (words text c.loop-binary.rest.now) (words text c.in-Some.behind.now) (words text c.in_ok-right.more.now)
+    let next = next_operator (parse c.args.source.now.count (c.args.calls - 1)) old.0 c.args.lowest c.tightness_of.result.right c.in-Some.binary (view c.loop-binary.left.expr.value.kind) (view c.in_ok-right.right.expr.value.kind) (view c.in_ok-left-2.left.expr.value.kind) (words text c.loop-binary.rest.now) (words text c.in-Some.behind.now) (words text c.in_ok-right.more.now)
     (omega (arith, old.1, c.in-Some.ensures.less)) c.in-Some.ensures.operator c.in-Some.ensures.rest c.tightness_of.ensures.right c.in_ok-right.ensures.gives c.in_ok-left-2.ensures.gives in
     record {
       steps = (next.0, omega (arith, next.1, old.1, c.in-Some.ensures.less, c.in_ok-right.ensures.less), old.2 ∙ next.2);
@@ -41,9 +41,9 @@ pub list-loop-behind-init : goal.list-loop-behind-init
 list-loop-behind-init t c =
     let n = c.args.source.now.count in
     let text = c.args.source.now.text.now in
-    let one : view_all c.push.new.self.items ≡ more (view c.in_ok-first.first.expr.kind) none = ap view_all c.in_ok-push.ensures.items ∙ ap (λ (xs : List Expr). view_all (xs ++ c.in_ok-first.first.expr ∷ [])) c.new-all.ensures.items in
+    let one : view_all c.push.new.self.items ≡ more (view c.in_ok-first.first.expr.value.kind) none = ap view_all c.in_ok-push.ensures.items ∙ ap (λ (xs : List Expr). view_all (xs ++ c.into_inner.result ∷ [])) c.new-all.ensures.items ∙ ap (λ (x : Expr). more (view x.kind) none) c.into_inner.ensures in
     record {
-      steps = (n, omega (arith, c.requires.known, c.in_ok-first.ensures.less), first_item (parse n c.args.calls) n c.args.close (words text c.args.tokens.now) (words text c.in_ok-first.rest.now) (view c.in_ok-first.first.expr.kind) (view_all c.push.new.self.items) c.in_ok-first.ensures.gives one);
+      steps = (n, omega (arith, c.requires.known, c.in_ok-first.ensures.less), first_item (parse n c.args.calls) n c.args.close (words text c.args.tokens.now) (words text c.in_ok-first.rest.now) (view c.in_ok-first.first.expr.value.kind) (view_all c.push.new.self.items) c.in_ok-first.ensures.gives one);
       deep = c.in_ok-first.ensures.depth ∙ sym (ap depths one ∙ omega arith);
       less = c.in_ok-first.ensures.less;
     }
@@ -53,10 +53,10 @@ list-loop-behind-preserved t c =
     let old = c.loop-behind.invariant.steps in
     let text = c.args.source.now.text.now in
     let p = parse c.args.source.now.count c.args.calls in
-    let longer : view_all c.push-in-Some.new.self.items ≡ push (view_all c.loop-behind.all.items) (view c.in_ok-further.further.expr.kind) = ap view_all c.in_ok-push-2.ensures.items ∙ view_push c.loop-behind.all.items c.in_ok-further.further.expr in
-    let next = next_item p old.0 (view_all c.loop-behind.all.items) (view_all c.push-in-Some.new.self.items) (words text c.loop-behind.rest.now) (words text c.in-Some.behind.now) (words text c.in_ok-further.more.now) (view c.in_ok-further.further.expr.kind)
+    let longer : view_all c.push-in-Some.new.self.items ≡ push (view_all c.loop-behind.all.items) (view c.in_ok-further.further.expr.value.kind) = ap view_all c.in_ok-push-2.ensures.items ∙ view_push c.loop-behind.all.items c.into_inner-in-Some.result ∙ ap (λ (x : Expr). push (view_all c.loop-behind.all.items) (view x.kind)) c.into_inner-in-Some.ensures in
+    let next = next_item p old.0 (view_all c.loop-behind.all.items) (view_all c.push-in-Some.new.self.items) (words text c.loop-behind.rest.now) (words text c.in-Some.behind.now) (words text c.in_ok-further.more.now) (view c.in_ok-further.further.expr.value.kind)
     (omega (arith, old.1, c.in-Some.ensures.less)) c.in-Some.ensures.begins c.in-Some.ensures.rest c.in_ok-further.ensures.gives longer in
-    let deep = depths_push (view_all c.loop-behind.all.items) (view c.in_ok-further.further.expr.kind) in
+    let deep = depths_push (view_all c.loop-behind.all.items) (view c.in_ok-further.further.expr.value.kind) in
     let same = ap depths longer in
     record {
       steps = (next.0, omega (arith, next.1, old.1, c.in-Some.ensures.less, c.in_ok-further.ensures.less), old.2 ∙ ap (up_to c.args.close) next.2);

@@ -37,8 +37,8 @@ decreases-operand l = 5 * l.calls + 4
 
 abbrev pub invariant-expression-loop-binary : goal.invariant-expression-loop-binary
 invariant-expression-loop-binary l = record {
-  steps : (k : ℕ) × (length l.rest ≤ k) × (parse l.source.count l.calls l.lowest (words l.source.text.now l.tokens) ≡ climb (parse l.source.count l.fewer) k l.lowest (view l.left.expr.kind) (words l.source.text.now l.rest));
-  deep : l.left.depth ≡ depth (view l.left.expr.kind);
+  steps : (k : ℕ) × (length l.rest ≤ k) × (parse l.source.count l.calls l.lowest (words l.source.text.now l.tokens) ≡ climb (parse l.source.count l.fewer) k l.lowest (view l.left.expr.value.kind) (words l.source.text.now l.rest));
+  deep : l.left.depth ≡ depth (view l.left.expr.value.kind);
   less : length l.rest < length l.tokens;
 }
 

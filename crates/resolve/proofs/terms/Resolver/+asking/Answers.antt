@@ -45,7 +45,7 @@ pub names-names-requires : goal.names-names-requires
 names-names-requires t c =
     let n = c.args.level in
     let e : c.in-Some.next ≡ suc n = omega (arith, c.in-Some.ensures) in
-    (search rules, (subst (λ m. Settled m c.numbered-term.result) (sym e) (subst (λ m. Settled m c.numbered-term.result) (add-one n) c.numbered-term.ensures.settled), subst (λ m. Steady m c.args.scope.now) (sym e) (steady_more n c.args.scope.now c.requires)))
+    (search rules, (subst (λ m. Settled m c.in_ok-term.term) (sym e) (subst (λ m. Settled m c.in_ok-term.term) (add-one n) c.in_ok-term.ensures.settled), subst (λ m. Steady m c.args.scope.now) (sym e) (steady_more n c.args.scope.now c.requires)))
 
 pub names-returns-clause-says : goal.names-returns-clause-says
 names-returns-clause-says t c =
@@ -61,10 +61,10 @@ names-returns-clause-says t c =
     (λ m. name_more c.args.asked.now _ c.names.new.asked (map (λ y. (y, sort)) ys ++ declared items) (λ l k. Written items (count (suc n) ys) (λ f. declare sort ys (suc n) f (bind x (given sort n f) (context c.args.scope.now f))) l k) _
     c.in_ok-push.ensures.items refl refl
     (rest_same _ c.names.new.asked _ _ _ (written_same items (count c.in-Some.next ys) (count (suc n) ys)
-    (λ f. declare sort ys c.in-Some.next f (bind x (meant c.numbered-term.result f) (context c.args.scope.now f)))
+    (λ f. declare sort ys c.in-Some.next f (bind x (meant c.in_ok-term.term f) (context c.args.scope.now f)))
     (λ f. declare sort ys (suc n) f (bind x (given sort n f) (context c.args.scope.now f)))
     (ap (λ k. count k ys) e) (λ f.
-    ap (λ v. declare sort ys c.in-Some.next f (bind x v (context c.args.scope.now f))) (c.numbered-term.ensures.means f)
+    ap (λ v. declare sort ys c.in-Some.next f (bind x v (context c.args.scope.now f))) (c.in_ok-term.ensures.means f)
     ∙ ap (λ k. declare sort ys k f (bind x (given sort n f) (context c.args.scope.now f))) e)) m)) c.names.ensures.says)
 
 pub items-returns-in-Free-clause-faults : goal.items-returns-in-Free-clause-faults
@@ -107,4 +107,4 @@ names-returns-clause-faults t c =
     let xs = c.args.names.now in
     let ys = take (length xs - 1) (drop 1 xs) in
     let parts = head_rest xs c.name-item.result (omega (arith, c.in-len1-up.len_at_least)) c.name-item.is in
-    names_more c.names.result (signature c.args.scope.now) c.args.sort _ xs ys c.name-item.result c.args.rest.now parts c.numbered-term.ensures.sorts c.names.ensures.faults
+    names_more c.names.result (signature c.args.scope.now) c.args.sort _ xs ys c.name-item.result c.args.rest.now parts c.in_ok-term.ensures.sorts c.names.ensures.faults

@@ -7,4 +7,4 @@ pub check-requires : goal.check-requires
 check-requires t c =
     let n = c.args.level in
     let e : c.in-Some.next ≡ suc n = omega (arith, c.in-Some.ensures) in
-    (search rules, (subst (λ m. Settled m c.numbered-term.result) (sym e) (subst (λ m. Settled m c.numbered-term.result) (add-one n) c.numbered-term.ensures.settled), subst (λ m. Steady m c.args.scope.now) (sym e) (steady_more n c.args.scope.now c.requires)))
+    (search rules, (subst (λ m. Settled m c.in_ok-term.term) (sym e) (subst (λ m. Settled m c.in_ok-term.term) (add-one n) c.in_ok-term.ensures.settled), subst (λ m. Steady m c.args.scope.now) (sym e) (steady_more n c.args.scope.now c.requires)))

@@ -15,7 +15,7 @@ pub bound-bound-requires : goal.bound-bound-requires
 bound-bound-requires t c =
     let n = c.args.level in
     let e : c.in-Some.next ≡ suc n = omega (arith, c.in-Some.ensures) in
-    (search rules, (subst (λ m. Settled m c.numbered-term.result) (sym e) (subst (λ m. Settled m c.numbered-term.result) (add-one n) c.numbered-term.ensures.settled), subst (λ m. Steady m c.args.scope.now) (sym e) (steady_more n c.args.scope.now c.requires)))
+    (search rules, (subst (λ m. Settled m c.in_ok-term.term) (sym e) (subst (λ m. Settled m c.in_ok-term.term) (add-one n) c.in_ok-term.ensures.settled), subst (λ m. Steady m c.args.scope.now) (sym e) (steady_more n c.args.scope.now c.requires)))
 
 pub bound-returns-clause-says : goal.bound-returns-clause-says
 bound-returns-clause-says t c = λ e.
@@ -25,9 +25,9 @@ bound-returns-clause-says t c = λ e.
     let rest = take (length xs - 1) (drop 1 xs) in
     let F : Context → Type 0 = λ z. holds c.args.body.now.kind z in
     let parts = head_rest xs x (omega (arith, c.in-len1-up.len_at_least)) c.first-item.is in
-    let inner = λ (f : Env). subst (λ v. Meaning c.in_ok-formula.formula f ↔ quantified c.args.quantifier c.args.sort rest F (bind x v (context s f))) (c.numbered-term.ensures.means f) (c.in_ok-formula.ensures.says f) in
-    let says = quantified_says c.args.quantifier c.args.sort c.args.level s x rest F (λ f. Meaning c.in_ok-formula.formula f) c.requires inner e in
-    iff_trans (c.in_ok-over.ensures e) (subst (λ l. OverAll c.args.quantifier c.args.sort c.args.level (λ f. Meaning c.in_ok-formula.formula f) e ↔ quantified c.args.quantifier c.args.sort l F (context s e)) (sym parts) says)
+    let inner = λ (f : Env). subst (λ v. Meaning c.in_ok-formula.formula.value f ↔ quantified c.args.quantifier c.args.sort rest F (bind x v (context s f))) (c.in_ok-term.ensures.means f) (c.in_ok-formula.ensures.says f) in
+    let says = quantified_says c.args.quantifier c.args.sort c.args.level s x rest F (λ f. Meaning c.in_ok-formula.formula.value f) c.requires inner e in
+    iff_trans (c.in_ok-over.ensures e) (subst (λ l. OverAll c.args.quantifier c.args.sort c.args.level (λ f. Meaning c.in_ok-formula.formula.value f) e ↔ quantified c.args.quantifier c.args.sort l F (context s e)) (sym parts) says)
 
 pub expanded-expanded-requires : goal.expanded-expanded-requires
 expanded-expanded-requires t c =
@@ -71,7 +71,7 @@ formula-returns-else-wanted-len-clause-says t c =
     let same = ap (λ l. bind_all l (map g c.deref-in-Call-2.result.now) around) c.deref-in-Call.ensures.value
     ∙ ap (λ l. bind_all known.predicate.now.parameters.items (map g l) around) c.deref-in-Call-2.ensures.value in
     let said = iff_trans (call_says at.name at.arguments s) (c.in-Some.ensures.says e (map g at.arguments.items)) in
-    subst (λ x. Meaning f e ↔ holds x s) (sym at.is)
+    subst (λ x. Meaning f.value e ↔ holds x s) (sym at.is)
     (iff_trans (h e) (iff_trans (along (λ z. holds known.predicate.now.body.kind z) _ _ same) (iff_sym said)))) c.expanded.ensures.says
 
 pub formula-returns-in_err-a-in-Not-clause-faults : goal.formula-returns-in_err-a-in-Not-clause-faults
@@ -146,7 +146,7 @@ bound-returns-in_err-formula-clause-faults t c =
     let xs = c.args.names.now in
     let rest = take (length xs - 1) (drop 1 xs) in
     let parts = head_rest xs c.first-item.result (omega (arith, c.in-len1-up.len_at_least)) c.first-item.is in
-    bound_more c.from_residual-in_err-formula.result (signature c.args.scope.now) c.args.sort _ c.first-item.result xs rest c.args.body.now _ c.from_residual-in_err-formula.ensures.1 parts c.numbered-term.ensures.sorts c.in_err-formula.ensures.faults
+    bound_more c.from_residual-in_err-formula.result (signature c.args.scope.now) c.args.sort _ c.first-item.result xs rest c.args.body.now _ c.from_residual-in_err-formula.ensures.1 parts c.in_ok-term.ensures.sorts c.in_err-formula.ensures.faults
 
 pub expanded-returns-in_err-term-clause-faults : goal.expanded-returns-in_err-term-clause-faults
 expanded-returns-in_err-term-clause-faults t c =

@@ -3,4 +3,4 @@ use Rattle.formulas.specs.Meaning.{Env, value}
 use Rattle.resolve.proofs.terms.Resolver.back.Given as goal
 
 abbrev pub invariant-loop-i : goal.invariant-loop-i
-invariant-loop-i l = (e : Env) → value l.moved e ≡ value l.fn.place e - l.i
+invariant-loop-i l = (e : Env) → value l.moved.value e ≡ value l.fn.place.value e - l.i

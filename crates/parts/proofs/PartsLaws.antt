@@ -8,7 +8,7 @@ use Rattle.trees.specs.declared.tree.ExprKind.TheVariants.{True, False, Empty, N
 use Rattle.trees.specs.declared.tree.Item.{Item}
 use Rattle.trees.specs.declared.tree.Item.TheVariants.{Free, Predicate as Defined, Assert, Formula as Claimed}
 use Rattle.resolve.specs.Faults.{Among}
-use Rattle.resolve.specs.Parts.{Piece, denied, halves, defines, one, two, body_of, called, parts_of, parts}
+use Rattle.parts.specs.Parts.{Piece, denied, halves, defines, one, two, body_of, called, parts_of, parts}
 
 -- the signs of an expression that may be formulas
 abbrev pub size : ExprKind → ℕ

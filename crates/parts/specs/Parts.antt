@@ -15,7 +15,7 @@ use Rattle.trees.specs.declared.tree.Item.TheVariants.{Predicate as Defined}
 use Rattle.resolve.specs.Faults.{Among}
 use Rattle.resolve.specs.declared.asked.Stated.{Stated}
 use Rattle.resolve.specs.declared.asked.Asked.{Asked}
-use Rattle.resolve.specs.declared.narrow.Part.{Part}
+use Rattle.parts.specs.declared.parts.Part.{Part}
 
 -- what stands in a text, that as a formula, and the items whose predicates are known there
 pub record Piece : Type 0 where
@@ -86,7 +86,7 @@ abbrev pub parts : Piece → List Piece
 parts p = parts_of p.known p.expr.kind p.formula
 
 abbrev pub stated_by : List Item → Stated → Piece
-stated_by items s = record { known = items; expr = s.expr.now; formula = s.formula }
+stated_by items s = record { known = items; expr = s.expr.now; formula = s.formula.value }
 
 -- the assumptions of a text, then its claims
 abbrev pub statements : List Item → Asked → List Piece

@@ -1,10 +1,10 @@
 // The parts of a formula, as they stand in the text and as formulas over numbers.
 ghost use Rattle.std.specs.Prelude.{◌≡◌, ◌++◌, [], ◌∷◌, map, position, string_bytes, IfOk, OnOk, MatchOption, Some, None};
-ghost use Rattle.resolve.specs.Parts.{piece_of, denied as denied_of, implied, halves as halves_of, under as under_of, defines as defines_of, one, two, called as called_of, parts as parts_of, stated_by, statements as statements_of};
+ghost use Rattle.parts.specs.Parts.{piece_of, denied as denied_of, implied, halves as halves_of, under as under_of, defines as defines_of, one, two, called as called_of, parts as parts_of, stated_by, statements as statements_of};
 
-use crate::asked::{Asked, Stated};
-use crate::scope::is_same;
 use formulas::formula::Formula;
+use resolve::asked::{Asked, Stated};
+use resolve::scope::is_same;
 use std::alloc::{AllocError, Global};
 use trees::tree::{Binary, Expr, ExprKind, Item, Name, Unary};
 
