@@ -41,8 +41,7 @@ pub fn property_of(alloc: Global, bits: &Bits<'_>, statement: &Statement) -> Res
     match statement {
         Statement::Never(_, pattern) => Ok(Property::Met(pattern_of(alloc, bits, pattern)?)),
         Statement::Claim(_, formula) => {
-            let formula = formula_of(alloc, bits, About::Step, *formula)?;
-            Ok(Property::Fails(Box::new(alloc, formula)?))
+            Ok(Property::Fails(formula_of(alloc, bits, About::Step, *formula)?))
         }
         _ => Err(Fault::NoClaim(statement_span(statement))),
     }
