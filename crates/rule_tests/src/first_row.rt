@@ -84,7 +84,8 @@ fn within(x: u32, y: u32) -> Formula {
 
 // What is answered of the rows of which it does not hold that set x is within set y.
 fn not_within(alloc: Global, rule: &Rule, x: u32, y: u32) -> Result<Verdict, Fail> {
-    answer(alloc, rule, Property::Fails(within(x, y)), MOST)
+    let formula = Box::new(alloc, within(x, y))?;
+    answer(alloc, rule, Property::Fails(formula), MOST)
 }
 
 fn has_sets(alloc: Global, rule: &Rule, x: u32, y: u32) -> Result<bool, Fail> {

@@ -83,7 +83,7 @@ fn formulas_and_claims(rt: HostRuntime) -> Result<(), Fail> {
     assert!(rt; fork.name == "kept" && fork.put == Put::Claim);
     let kept = all_in(alloc, 5, 1, place_in(alloc, 5, 4)?)?;
     match &fork.question.property {
-        Property::Fails(formula) => assert!(rt; *formula == *kept),
+        Property::Fails(formula) => assert!(rt; **formula == *kept),
         _ => return Err(Fail::from("a formula")),
     }
     Ok(())

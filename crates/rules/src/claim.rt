@@ -96,17 +96,27 @@ fn in_next_row(alloc: Global, rule: &Rule, after: &[u8], claim: Claim) -> Result
     some_row(alloc, rule.bits, after, step)
 }
 
+// A row, and a claim about it.
+fn row_with(alloc: Global, rule: &Rule, claim: Claim) -> Result<Claim, AllocError>
+    ensures { IfOk result (λ c. said c ≡ and1 (is_row rule.now.bits) (said claim)) }
+{
+    and(alloc, is_row(alloc, rule.bits)?, claim)
+}
+
+// A row with a module, and a claim about it.
+fn row_with_module(alloc: Global, rule: &Rule, claim: Claim) -> Result<Claim, AllocError>
+    ensures { IfOk result (λ c. said c ≡ and1 (is_row rule.now.bits) (and1 (has_module rule.now.bits) (said claim))) }
+{
+    let module = and(alloc, has_module(alloc, rule.bits as usize)?, claim)?;
+    row_with(alloc, rule, module)
+}
+
 /// A row with a module that is allowed.
 pub fn allowed_claim(alloc: Global, rule: &Rule) -> Result<Claim, AllocError>
     ensures { IfOk result (λ c. said c ≡ Faults.allowed_claim rule.now.bits rule.now.allowed.items rule.now.limits.items) }
 {
-    let row = is_row(alloc, rule.bits)?;
-    let allowed = and(
-        alloc,
-        has_module(alloc, rule.bits as usize)?,
-        all_allowed(alloc, rule, &[])?,
-    )?;
-    and(alloc, row, allowed)
+    let allowed = all_allowed(alloc, rule, &[])?;
+    row_with_module(alloc, rule, allowed)
 }
 
 // A row with a module that is allowed, and a claim about it.
@@ -114,9 +124,7 @@ fn module_and(alloc: Global, rule: &Rule, claim: Claim) -> Result<Claim, AllocEr
     ensures { IfOk result (λ c. said c ≡ and1 (is_row rule.now.bits) (and1 (has_module rule.now.bits) (and1 (Faults.allowed_part rule.now.bits same_number rule.now.allowed.items rule.now.limits.items) (said claim)))) }
 {
     let allowed = and(alloc, all_allowed(alloc, rule, &[])?, claim)?;
-    let some = and(alloc, has_module(alloc, rule.bits as usize)?, allowed)?;
-    let row = is_row(alloc, rule.bits)?;
-    and(alloc, row, some)
+    row_with_module(alloc, rule, allowed)
 }
 
 /// A row with a module that is allowed and stuck.
@@ -132,8 +140,7 @@ fn allowed_and(alloc: Global, rule: &Rule, claim: Claim) -> Result<Claim, AllocE
     ensures { IfOk result (λ c. said c ≡ and1 (is_row rule.now.bits) (and1 (Faults.allowed_part rule.now.bits same_number rule.now.allowed.items rule.now.limits.items) (said claim))) }
 {
     let allowed = and(alloc, all_allowed(alloc, rule, &[])?, claim)?;
-    let row = is_row(alloc, rule.bits)?;
-    and(alloc, row, allowed)
+    row_with(alloc, rule, allowed)
 }
 
 /// A row that is allowed, and somewhere a module is as the pattern says.
@@ -166,8 +173,7 @@ pub fn left_of(alloc: Global, rule: &Rule, changed: &[u8]) -> Result<Claim, Allo
     let [_, ..] = changed else {
         let b = rule.bits as usize;
         let none = not(alloc, within(b, b))?;
-        let row = is_row(alloc, rule.bits)?;
-        return and(alloc, row, none);
+        return row_with(alloc, rule, none);
     };
     left_claim(alloc, rule, changed)
 }

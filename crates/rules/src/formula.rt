@@ -64,6 +64,6 @@ pub fn with_limits(
     let [formula, rest @ ..] = limits else {
         return Ok(claim);
     };
-    let first = of_formula(alloc, rule, after, formula)?;
-    and(alloc, first, with_limits(alloc, rule, after, rest, claim)?)
+    let others = with_limits(alloc, rule, after, rest, claim)?;
+    and(alloc, of_formula(alloc, rule, after, formula)?, others)
 }

@@ -19,12 +19,14 @@ pub fn at_place(alloc: Global, p: usize, f: &Local) -> Result<Claim, AllocError>
         Local::Both(g, h) => and(alloc, at_place(alloc, p, g)?, at_place(alloc, p, h)?),
         Local::Before(g) => {
             let l = fresh(p, g);
-            let place = and(alloc, next(l, p), at_place(alloc, l, g)?)?;
+            let there = at_place(alloc, l, g)?;
+            let place = and(alloc, next(l, p), there)?;
             some_set(alloc, l, place)
         }
         Local::Behind(g) => {
             let l = fresh(p, g);
-            let place = and(alloc, next(p, l), at_place(alloc, l, g)?)?;
+            let there = at_place(alloc, l, g)?;
+            let place = and(alloc, next(p, l), there)?;
             some_set(alloc, l, place)
         }
     }

@@ -11,7 +11,8 @@ use std::alloc::{AllocError, Global};
 fn no_hole(alloc: Global, r: usize, y: usize, z: usize) -> Result<Claim, AllocError>
     ensures { IfOk result (λ c. said c ≡ no_hole r y z) }
 {
-    let hole = and(alloc, within(z, r), not(alloc, within(y, r))?)?;
+    let outside = not(alloc, within(y, r))?;
+    let hole = and(alloc, within(z, r), outside)?;
     let holes = and(alloc, next(y, z), hole)?;
     let found = some_set(alloc, y, some_set(alloc, z, holes)?)?;
     not(alloc, found)
@@ -24,7 +25,8 @@ fn whole(alloc: Global, k: usize, r: usize, z: usize) -> Result<Claim, AllocErro
     if k == 0 {
         return no_hole(alloc, r, 0, z);
     }
-    and(alloc, within(k - 1, r), whole(alloc, k - 1, r, z)?)
+    let others = whole(alloc, k - 1, r, z)?;
+    and(alloc, within(k - 1, r), others)
 }
 
 /// The claim that sets 0 to `bits` are a row of modules: set `bits` begins at place 0 and has no hole, and the others lie within it.
@@ -53,6 +55,7 @@ pub fn some_row(alloc: Global, bits: u8, js: &[u8], claim: Claim) -> Result<Clai
     };
     let b = bits as usize;
     let y = b + 1 + *j as usize;
-    let within_row = and(alloc, within(y, b), some_row(alloc, bits, rest, claim)?)?;
+    let others = some_row(alloc, bits, rest, claim)?;
+    let within_row = and(alloc, within(y, b), others)?;
     some_set(alloc, y, within_row)
 }

@@ -32,10 +32,11 @@ pub fn after_step(
         bits: y.bits,
         after: &[],
     };
+    let others = after_step(alloc, y, &js[n..], table, claim)?;
     let now = each(
         alloc,
         y.bits as usize,
         of_step(alloc, &x, y, &js[..n], table)?,
     )?;
-    and(alloc, now, after_step(alloc, y, &js[n..], table, claim)?)
+    and(alloc, now, others)
 }
