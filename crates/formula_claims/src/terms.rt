@@ -36,14 +36,12 @@ pub fn is_place(
         Place::First => is_first(alloc, fresh(&[n], &[], scope), n),
         Place::Succ(t) => {
             let m = beside_place(alloc, n, t, scope)?;
-            let is_t = is_place(alloc, t, scope, m)?;
-            behind(alloc, t, scope, m, is_t, n)
+            behind(alloc, t, scope, m, n)
         }
         Place::Prev(t) => {
             let m = beside_place(alloc, n, t, scope)?;
-            let is_t = is_place(alloc, t, scope, m)?;
             let before = is_before(alloc, fresh(&[n], &[], scope), n, set_of(t, scope, m))?;
-            let claim = about(alloc, t, m, is_t, false, before)?;
+            let claim = about(alloc, t, scope, m, false, before)?;
             Ok(claim)
         }
         Place::Least(s) => {
@@ -166,42 +164,45 @@ pub fn set_of(place: &Place, scope: &Scope, m: usize) -> usize
     }
 }
 
-// A claim about a place, as `set_of` gives its set: where that is set m, there is a place m that is_place says to be it. That it is a place is not said again
-// where is_place or the claim is sure of it.
+// A claim about a place, as `set_of` gives its set: where that is set m, there is a place m that is the place. That it is a place is not said again where that
+// or the claim is sure of it.
+#[cycle(terms)]
 pub fn about(
     alloc: Global,
     place: &Place,
+    scope: &Scope,
     m: usize,
-    is_place: Box<Claim>,
     sure: bool,
     claim: Box<Claim>,
 ) -> Result<Box<Claim>, AllocError>
-    ensures { IfOk result (λ r. said r.value ≡ Points.about_set place.now m (said is_place.value) sure (said claim.value)) }
+    ensures { IfOk result (λ r. said r.value ≡ Points.about_set place.now m (Translation.is_place place.now (number_of scope.now) m) sure (said claim.value)) }
 {
     match place {
         Place::Named(_) => Ok(claim),
         t => {
-            let both = and(alloc, is_place, claim)?;
+            let is_t = is_place(alloc, t, scope, m)?;
+            let both = and(alloc, is_t, claim)?;
             some_place(alloc, is_sure(t) || sure, m, both)
         }
     }
 }
 
 // Set n is the place behind this one.
+#[cycle(terms)]
 fn behind(
     alloc: Global,
     place: &Place,
     scope: &Scope,
     m: usize,
-    is_place: Box<Claim>,
     n: usize,
 ) -> Result<Box<Claim>, AllocError>
-    ensures { IfOk result (λ r. said r.value ≡ Translation.behind (number_of scope.now) place.now m (said is_place.value) n) }
+    ensures { IfOk result (λ r. said r.value ≡ Translation.behind (number_of scope.now) place.now m (Translation.is_place place.now (number_of scope.now) m) n) }
 {
     match place {
         Place::Named(x) => atom(alloc, Atom::Next(scope.number(Name::OfPlace(*x)), n)),
-        _ => {
-            let both = and(alloc, is_place, atom(alloc, Atom::Next(m, n))?)?;
+        t => {
+            let is_t = is_place(alloc, t, scope, m)?;
+            let both = and(alloc, is_t, atom(alloc, Atom::Next(m, n))?)?;
             some_set(alloc, m, both)
         }
     }

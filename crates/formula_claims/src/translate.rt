@@ -178,8 +178,7 @@ fn same(
     push_place(&mut names, t)?;
     let m = fresh(&[], &names, scope);
     let is_s = is_place(alloc, s, scope, set_of(t, scope, m))?;
-    let is_t = is_place(alloc, t, scope, m)?;
-    let claim = about(alloc, t, m, is_t, is_sure(s), is_s)?;
+    let claim = about(alloc, t, scope, m, is_sure(s), is_s)?;
     signed(alloc, holds, claim)
 }
 
@@ -201,10 +200,8 @@ fn less(
         alloc,
         Atom::Before(set_of(s, scope, m), set_of(t, scope, n)),
     )?;
-    let is_t = is_place(alloc, t, scope, n)?;
-    let before_t = about(alloc, t, n, is_t, true, before)?;
-    let is_s = is_place(alloc, s, scope, m)?;
-    let claim = about(alloc, s, m, is_s, true, before_t)?;
+    let before_t = about(alloc, t, scope, n, true, before)?;
+    let claim = about(alloc, s, scope, m, true, before_t)?;
     signed(alloc, holds, claim)
 }
 
@@ -222,8 +219,7 @@ fn lies_in(
     push_group(&mut names, s)?;
     let m = fresh(&[], &names, scope);
     let in_s = is_in(alloc, s, scope, set_of(t, scope, m))?;
-    let is_t = is_place(alloc, t, scope, m)?;
-    let claim = about(alloc, t, m, is_t, is_sure_in(s), in_s)?;
+    let claim = about(alloc, t, scope, m, is_sure_in(s), in_s)?;
     signed(alloc, holds, claim)
 }
 

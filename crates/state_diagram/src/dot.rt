@@ -15,10 +15,8 @@ struct Quoted<'a>(&'a str);
 impl fmt::Display for Quoted<'_> {
     fn fmt<W: fmt::Write>(&self, f: &mut fmt::Formatter<W>) -> fmt::Result {
         for c in self.0.chars() {
-            if c == '"' || c == '\\' {
-                write!(f, "\\")?;
-            }
-            write!(f, "{c}")?;
+            let escape = if c == '"' || c == '\\' { "\\" } else { "" };
+            write!(f, "{escape}{c}")?;
         }
         Ok(())
     }
@@ -37,15 +35,13 @@ impl fmt::Display for Label<'_> {
         let mut first = true;
         for transition in self.transitions {
             if transition.to == self.to {
-                if !first {
-                    write!(f, "\\n")?;
-                }
+                let end = if first { "" } else { "\\n" };
                 first = false;
                 let letters = Letters {
                     pattern: &transition.pattern,
                     names: self.names,
                 };
-                write!(f, "{letters}")?;
+                write!(f, "{end}{letters}")?;
             }
         }
         Ok(())
@@ -102,16 +98,27 @@ impl fmt::Display for Names<'_, '_> {
     }
 }
 
-impl fmt::Display for Dot<'_, '_, '_> {
+// The line that tells the names, if there are any.
+#[derive(Clone, Copy)]
+struct Title<'n, 't>(&'n [&'t str]);
+
+impl fmt::Display for Title<'_, '_> {
     fn fmt<W: fmt::Write>(&self, f: &mut fmt::Formatter<W>) -> fmt::Result {
-        let diagram = self.0;
-        write!(f, "digraph automaton {{\n    rankdir = LR;\n")?;
-        if !diagram.names.is_empty() {
-            let names = Names(diagram.names);
-            write!(f, "    label = \"sets:{names}\";\n")?;
+        if self.0.is_empty() {
+            return Ok(());
         }
-        write!(f, "    start [shape = point];\n")?;
-        for (q, state) in diagram.states.iter().enumerate() {
+        let names = Names(self.0);
+        write!(f, "    label = \"sets:{names}\";\n")
+    }
+}
+
+// The states, a line for each.
+#[derive(Clone, Copy)]
+struct Circles<'d>(&'d [State]);
+
+impl fmt::Display for Circles<'_> {
+    fn fmt<W: fmt::Write>(&self, f: &mut fmt::Formatter<W>) -> fmt::Result {
+        for (q, state) in self.0.iter().enumerate() {
             let shape = if state.accepts {
                 "doublecircle"
             } else {
@@ -119,7 +126,17 @@ impl fmt::Display for Dot<'_, '_, '_> {
             };
             write!(f, "    {q} [shape = {shape}];\n")?;
         }
-        write!(f, "    start -> 0;\n")?;
+        Ok(())
+    }
+}
+
+impl fmt::Display for Dot<'_, '_, '_> {
+    fn fmt<W: fmt::Write>(&self, f: &mut fmt::Formatter<W>) -> fmt::Result {
+        let diagram = self.0;
+        let title = Title(diagram.names);
+        let circles = Circles(&diagram.states);
+        write!(f, "digraph automaton {{\n    rankdir = LR;\n{title}")?;
+        write!(f, "    start [shape = point];\n{circles}    start -> 0;\n")?;
         for (q, state) in diagram.states.iter().enumerate() {
             let arrows = Arrows {
                 q,
