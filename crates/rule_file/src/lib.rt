@@ -1,4 +1,4 @@
-// Rule files as text: the tokens of a file, the tree of what stands in it, how a tree is printed, and what is wrong with a file. Names are not looked up here.
+// Rule files as text: the tokens of a file, the tree of what stands in it, and what is wrong with a file. Names are not looked up here.
 #![tactic(auto)]
 
 mod cursor;
@@ -8,7 +8,6 @@ mod modules;
 pub mod names;
 pub mod parse;
 mod patterns;
-pub mod print;
 mod statements;
 pub mod token;
 pub mod tree;

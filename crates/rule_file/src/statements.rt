@@ -79,7 +79,7 @@ fn row<'a>(alloc: Global, tokens: &'a [Token]) -> Result<(Statement, &'a [Token]
 }
 
 /// What the lines below a heading are.
-#[derive(Clone, Copy, Debug, PartialEq, Eq)]
+#[derive(Clone, Copy)]
 pub enum Section {
     Outside,
     Allowed,

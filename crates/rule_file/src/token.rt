@@ -48,7 +48,7 @@ pub struct Token {
 }
 
 // Where in a line the next token stands, as far as that says whether a formula begins there.
-#[derive(Clone, Copy, Debug, PartialEq, Eq)]
+#[derive(Clone, Copy, PartialEq, Eq)]
 enum Stage {
     Start,
     // behind `claim`
@@ -71,25 +71,32 @@ fn stage_behind(stage: Stage, kind: Kind) -> Stage {
     }
 }
 
+// The words that mean something in a rule file.
+const WORDS: [(&[u8], Kind); 12] = [
+    (b"bits", Kind::Bits),
+    (b"allowed", Kind::Allowed),
+    (b"table", Kind::Table),
+    (b"never", Kind::Never),
+    (b"claim", Kind::Claim),
+    (b"row", Kind::Row),
+    (b"module", Kind::Module),
+    (b"none", Kind::Missing),
+    (b"moves", Kind::Moves),
+    (b"waits", Kind::Waits),
+    (b"left", Kind::Left),
+    (b"right", Kind::Right),
+];
+
 fn word_kind(word: &[u8]) -> Kind {
-    match word {
-        b"bits" => Kind::Bits,
-        b"allowed" => Kind::Allowed,
-        b"table" => Kind::Table,
-        b"never" => Kind::Never,
-        b"claim" => Kind::Claim,
-        b"row" => Kind::Row,
-        b"module" => Kind::Module,
-        b"none" => Kind::Missing,
-        b"moves" => Kind::Moves,
-        b"waits" => Kind::Waits,
-        b"left" => Kind::Left,
-        b"right" => Kind::Right,
-        _ => if word.is_ascii() {
-            Kind::Name
-        } else {
-            Kind::Other
-        },
+    for known in &WORDS {
+        if known.0 == word {
+            return known.1;
+        }
+    }
+    if word.is_ascii() {
+        Kind::Name
+    } else {
+        Kind::Other
     }
 }
 

@@ -7,7 +7,7 @@ use crate::token::Token;
 use trees::position::Span;
 
 /// A word of a pattern's part, as what it asks: nothing (`*`), that there is a module or none, that a bit is set (`tray`) or is not (`!tray`).
-#[derive(Clone, Copy, Debug, PartialEq, Eq)]
+#[derive(Clone, Copy)]
 pub enum Term {
     Any(Token),
     Module(Token),
@@ -18,7 +18,7 @@ pub enum Term {
 }
 
 /// What is asked of the left neighbour, of the module and of the right neighbour, and the bars between.
-#[derive(Debug, Drop)]
+#[derive(Drop)]
 pub struct Pattern {
     pub left: Vec<Term>,
     pub first: Token,
@@ -28,7 +28,7 @@ pub struct Pattern {
 }
 
 /// The bit whose value a bit takes: `tray`, `left.tray` or `right.tray`. Its name is the last token.
-#[derive(Clone, Copy, Debug, PartialEq, Eq)]
+#[derive(Clone, Copy)]
 pub enum Source {
     Own(Token),
     Left(Token, Token, Token),
@@ -36,7 +36,7 @@ pub enum Source {
 }
 
 /// A bit after a step: set (`tray`), not set (`!tray`) or as another bit was (`tray=left.tray`).
-#[derive(Clone, Copy, Debug, PartialEq, Eq)]
+#[derive(Clone, Copy)]
 pub enum Change {
     Set(Token),
     Clear(Token, Token),
@@ -44,14 +44,14 @@ pub enum Change {
 }
 
 /// Whether the module moves.
-#[derive(Clone, Copy, Debug, PartialEq, Eq)]
+#[derive(Clone, Copy)]
 pub enum Motion {
     Moves(Token),
     Waits(Token),
 }
 
 /// What a line of the table does: the changes before and behind its one word `moves` or `waits`.
-#[derive(Debug, Drop)]
+#[derive(Drop)]
 pub struct Effects {
     pub before: Vec<Change>,
     pub motion: Motion,
@@ -59,28 +59,28 @@ pub struct Effects {
 }
 
 /// A bit of a module behind its first: the sign and the name.
-#[derive(Clone, Copy, Debug, PartialEq, Eq)]
+#[derive(Clone, Copy)]
 pub struct Joined {
     pub plus: Token,
     pub name: Token,
 }
 
 /// A module of a given row: `.`, or the names of its bits with `+` between them.
-#[derive(Debug, Drop)]
+#[derive(Drop)]
 pub enum Module {
     Bare(Token),
     Bits(Token, Vec<Joined>),
 }
 
 /// A word with its colon, as `row:`.
-#[derive(Clone, Copy, Debug, PartialEq, Eq)]
+#[derive(Clone, Copy)]
 pub struct Heading {
     pub word: Token,
     pub colon: Token,
 }
 
 /// A word with a name and its colon, as `never gap:`.
-#[derive(Clone, Copy, Debug, PartialEq, Eq)]
+#[derive(Clone, Copy)]
 pub struct Named {
     pub word: Token,
     pub name: Token,
@@ -88,7 +88,7 @@ pub struct Named {
 }
 
 /// What stands on a line, but for the names of the bits. A formula is one token.
-#[derive(Debug, Drop)]
+#[derive(Drop)]
 pub enum Statement {
     Allowed(Heading),
     Limit(Heading, Token),
@@ -102,14 +102,14 @@ pub enum Statement {
 }
 
 /// A statement and the ends of lines behind it: none only at the end of the file.
-#[derive(Debug, Drop)]
+#[derive(Drop)]
 pub struct Line {
     pub statement: Statement,
     pub ends: Vec<Token>,
 }
 
 /// A file: the ends of lines before its first line, that first line with the names of the bits, and the lines below it.
-#[derive(Debug, Drop)]
+#[derive(Drop)]
 pub struct File {
     pub front: Vec<Token>,
     pub heading: Heading,

@@ -6,7 +6,7 @@ use rule_file::tree::Statement;
 use rule_source::claimed::Put;
 
 /// What is asked: the three questions that each rule gets, and the claims of the file.
-#[derive(Clone, Copy, Debug)]
+#[derive(Clone, Copy)]
 pub enum Subject<'s> {
     SomeAllowed,
     NoneStuck,

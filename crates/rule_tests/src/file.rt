@@ -1,7 +1,7 @@
 // Whole files, and each fault with its message and its place.
 use rule_file::parse::read;
-use rule_file::print::print;
 use rule_file::token::{Kind, tokens};
+use rule_printing::print::print;
 use std::alloc::Global;
 use std::test::Fail;
 use trees::position::position_of;

@@ -1,7 +1,9 @@
 // A tree as a text in one form: a line for each statement, words with one space between them, headings and their lines as examples have them. A formula
 // is printed as it stands in the text that was read; comments outside of formulas are not in the tree.
-use crate::token::Token;
-use crate::tree::{Change, Effects, File, Module, Motion, Named, Pattern, Source, Statement, Term};
+use rule_file::token::Token;
+use rule_file::tree::{
+    Change, Effects, File, Module, Motion, Named, Pattern, Source, Statement, Term,
+};
 use std::alloc::{AllocError, Global};
 use thiserror::Error;
 
