@@ -1,4 +1,7 @@
 // The names that are known where a part of a formula is printed, and new ones.
+ghost use Rattle.std.specs.Prelude.{◌≡◌, false, string_bytes, IfOk};
+ghost use Rattle.claim_text.specs.Called.{called};
+
 use crate::refusal::Refusal;
 use formulas::name::Name;
 use std::alloc::{AllocError, Global};
@@ -44,17 +47,12 @@ impl<'a> Known<'a> {
     }
 
     // Whether something is called so.
-    fn has_word(&self, wanted: &str) -> bool {
+    fn has_word(&self, wanted: &str) -> bool
+        ensures { result ≡ called self.now wanted.now }
+    {
         match self {
             Known::Bound(_, word, rest) => *word == wanted || rest.has_word(wanted),
-            Known::Free(words) => {
-                for word in *words {
-                    if *word == wanted {
-                        return true;
-                    }
-                }
-                false
-            }
+            Known::Free(words) => words.contains(&wanted),
         }
     }
 
@@ -73,32 +71,17 @@ impl<'a> Known<'a> {
         }
     }
 
-    // The length of the longest word.
-    fn longest(&self) -> usize {
-        match self {
-            Known::Bound(_, word, rest) => word.len().max(rest.longest()),
-            Known::Free(words) => {
-                let mut most = 0;
-                for word in *words {
-                    most = most.max(word.len());
-                }
-                most
-            }
-        }
-    }
-
-    /// A word for a place or a set that is bound, by which nothing is called: a letter, made longer while something is called so. One that is longer
-    /// than all is new.
-    pub fn new_word(&self, alloc: Global, name: Name) -> Result<String, AllocError> {
+    /// A word for a place or a set that is bound, by which nothing is called: a letter, made
+    /// longer while something is called so. One that is longer than all is new, so this ends.
+    pub fn new_word(&self, alloc: Global, name: Name) -> Result<String, AllocError>
+        ensures { IfOk result (λ s. called self.now (string_bytes s) ≡ false) }
+    {
         let letters = match name {
             Name::OfPlace(_) => PLACES,
             Name::OfGroup(_) => SETS,
         };
         let mut word = String::from_str(alloc, letters[self.bound_count(name) % 6])?;
-        for _ in 0..self.longest() {
-            if !self.has_word(word.as_str()) {
-                break;
-            }
+        while self.has_word(word.as_str()) {
             word.push('1')?;
         }
         Ok(word)

@@ -1,0 +1,2 @@
+-- A word that is longer than every name is new.
+pub mod CalledLaws

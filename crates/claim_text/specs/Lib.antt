@@ -1,0 +1,2 @@
+-- How names are given to what a claim binds.
+pub mod Called
