@@ -75,7 +75,8 @@ fn is_end(
     or(alloc, outermost, first_of_none)
 }
 
-// The place of which in_n says that it is in a set is the outermost there: no place of the set, as in_m says of set m, is further out, as `beyond` says.
+// The place of which in_n says that it is in a set is the outermost there: no place of the set, as
+// in_m says of set m, is further out, as `beyond` says.
 fn is_outermost(
     alloc: Global,
     in_n: Box<Claim>,
@@ -164,8 +165,8 @@ pub fn set_of(place: &Place, scope: &Scope, m: usize) -> usize
     }
 }
 
-// A claim about a place, as `set_of` gives its set: where that is set m, there is a place m that is the place. That it is a place is not said again where that
-// or the claim is sure of it.
+// A claim about a place, as `set_of` gives its set: where that is set m, there is a place m that is
+// the place. That it is a place is not said again where that or the claim is sure of it.
 #[cycle(terms)]
 pub fn about(
     alloc: Global,

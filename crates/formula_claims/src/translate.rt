@@ -70,7 +70,8 @@ fn translate_as(
     }
 }
 
-// The claim c, and the formula's, or where it is not to hold its opposite's; or the opposite of both where `both` is false.
+// The claim c, and the formula's, or where it is not to hold its opposite's; or the opposite of both
+// where `both` is false.
 #[cycle(formulas)]
 fn beside(
     alloc: Global,
@@ -108,7 +109,8 @@ fn numbered_atom(named: Atom, scope: &Scope) -> Atom
     }
 }
 
-// There is a place x of which the formula holds, or does not hold; or where `some` is false there is none.
+// There is a place x of which the formula holds, or does not hold; or where `some` is false there is
+// none.
 #[cycle(formulas)]
 fn some_named(
     alloc: Global,
@@ -127,7 +129,8 @@ fn some_named(
     signed(alloc, some, place)
 }
 
-// There is a set x of which the formula holds, or does not hold; or where `some` is false there is none.
+// There is a set x of which the formula holds, or does not hold; or where `some` is false there is
+// none.
 #[cycle(formulas)]
 fn some_group(
     alloc: Global,
