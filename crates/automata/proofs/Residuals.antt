@@ -4,12 +4,14 @@ use Rattle.std.proofs.Common.{◌≡◌, ℕ, zero, suc, ◌<◌, Bool, true, fa
 use mathlib.Core.Bool.{false≢true}
 use Rattle.words.specs.Words.{Sets, Word, sets}
 use Rattle.claims.specs.Atoms.{atom, first, second}
-use Rattle.claims.specs.Claims.{Holds, Of, Only, before, next, single, within}
+use Rattle.claims.specs.Claims.{Holds, Of, before, next, single, within}
+use Rattle.kinds.specs.Relations.{Only}
 use Rattle.claims.specs.declared.atom.Atom.{Atom}
 use Rattle.claims.specs.declared.atom.Atom.TheVariants.{Within}
 use Rattle.automata.specs.Residuals.{after, ends, moves, whole}
 use Rattle.automata.specs.Search.{Explored}
-use Rattle.automata.specs.Tables.{Table, run}
+use Rattle.automata.specs.Tables.{Table}
+use Rattle.words.specs.Runs.{run}
 use Rattle.automata.specs.declared.residual.Residual.{Residual}
 use Rattle.automata.specs.declared.residual.Residual.TheVariants.{Inside, One, Behind, Far, Alone, Here, Clear, Gone, Dead}
 use Rattle.automata.proofs.Decisions.{off}

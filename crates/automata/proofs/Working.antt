@@ -12,7 +12,8 @@ use Rattle.automata.specs.Residuals.{ends, moves, whole}
 use Rattle.automata.specs.Product.{Pair, left, pair, right, step_pair}
 use Rattle.automata.specs.Search.{Explored, TooMany}
 use Rattle.automata.specs.Subsets.{Completes, Live, accepts_set, start_set, step_set}
-use Rattle.automata.specs.Tables.{Collapsed, Exact, Table, run}
+use Rattle.automata.specs.Tables.{Collapsed, Exact, Table}
+use Rattle.words.specs.Runs.{run}
 use Rattle.automata.specs.Worked.{Shown, Worked}
 use Rattle.automata.specs.declared.residual.Residual.{Residual}
 use Rattle.automata.proofs.Beyond.{Beyond, some_beyond}

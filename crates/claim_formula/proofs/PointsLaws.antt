@@ -3,7 +3,8 @@ use Rattle.std.proofs.Common.{◌≡◌, ℕ, suc, ◌<◌, Bool, true, false, c
 use mathlib.Core.Bool.{true≢false}
 use Rattle.std.proofs.lemmas.Bool.Decides.{eqb_tells}
 use Rattle.words.specs.Words.{Sets, sets}
-use Rattle.claims.specs.Claims.{within, single, next, before, Only, has}
+use Rattle.claims.specs.Claims.{within, single, next, before, has}
+use Rattle.kinds.specs.Relations.{Only}
 use Rattle.claims.specs.Places.{one}
 use Rattle.claims.proofs.PlacesLaws.{has_one, one_has}
 use Rattle.formulas.specs.declared.formula.Formula.{Formula}

@@ -3,7 +3,8 @@ use Rattle.std.proofs.Common.{◌≡◌, ℕ, Bool, true, false, cond, ◌==◌,
 use mathlib.Core.Bool.{false≢true}
 use Rattle.std.proofs.lemmas.Bool.Decides.{eqb_tells}
 use Rattle.words.specs.Words.{Sets}
-use Rattle.claims.specs.Claims.{C, within, single, next, before, not1, and1, some, Holds, Only, has, put}
+use Rattle.claims.specs.Claims.{C, within, single, next, before, not1, and1, some, Holds, has, put}
+use Rattle.kinds.specs.Relations.{Only}
 use Rattle.claims.specs.Places.{one}
 use Rattle.claims.proofs.PlacesLaws.{has_one, one_has, put_same, only_put}
 use Rattle.formulas.specs.Meaning.{Env, with_place, with_group}

@@ -2,13 +2,11 @@
 // What is needed is counted before anything is written, so that a refusal says how much, and a
 // claim that is refused costs no memory. Counts stop at usize::MAX.
 ghost use Rattle.std.specs.Prelude.{◌≡◌, ◌+◌, ◌≤◌, [], ◌∷◌, ◌++◌, length, min, OnOk, MatchResult};
-ghost use Rattle.claims.specs.Atoms.{atom as of_atom};
 ghost use Rattle.claims.specs.Rows.{row, Claim as IsBytesOf};
 ghost use Rattle.claims.specs.declared.encode.Refusal.TheVariants.{OutOfMemory};
 ghost use Rattle.claims.specs.Encoded.{sets_needed, Refused};
 ghost use Rattle.claims.specs.Trees.{said, sets_of};
 
-use crate::atom::Atom;
 use crate::tree::Claim;
 use std::alloc::{AllocError, AllocFailed, Global};
 use thiserror::Error;
@@ -51,10 +49,7 @@ pub fn sets(claim: &Claim) -> usize
     ensures { result ≡ min (sets_of (said claim.now)) usize.MAX }
 {
     match claim {
-        Claim::Atom(Atom::Within(x, y) | Atom::Next(x, y) | Atom::Before(x, y)) => (*x)
-            .max(*y)
-            .saturating_add(1),
-        Claim::Atom(Atom::Single(x)) => x.saturating_add(1),
+        Claim::Atom(atom) => atom.sets(),
         Claim::Not(c) => sets(c),
         Claim::And(c, d) => sets(c).max(sets(d)),
         Claim::Some(x, c) => x.saturating_add(1).max(sets(c)),
@@ -66,32 +61,11 @@ pub fn length_of(claim: &Claim) -> usize
     ensures { result ≡ min (length (row (said claim.now))) usize.MAX }
 {
     match claim {
-        Claim::Atom(Atom::Single(_)) => 2,
-        Claim::Atom(_) => 3,
+        Claim::Atom(atom) => atom.length(),
         Claim::Not(c) => length_of(c).saturating_add(1),
         Claim::And(c, d) => length_of(c).saturating_add(length_of(d)).saturating_add(1),
         Claim::Some(_, c) => length_of(c).saturating_add(2),
     }
-}
-
-// Puts the bytes of a claim without parts behind those that are there.
-fn push_atom(atom: Atom, out: &mut Vec<u8>) -> Result<(), AllocError>
-    requires { sets_of (of_atom atom) ≤ 256 }
-    ensures { OnOk result (out.new.items ≡ out.old.items ++ row (of_atom atom)) }
-{
-    let (sign, x, y) = match atom {
-        Atom::Within(x, y) => (0, x, y),
-        Atom::Single(x) => {
-            out.push(1)?;
-            return Ok(out.push(x as u8)?);
-        }
-        Atom::Next(x, y) => (2, x, y),
-        Atom::Before(x, y) => (3, x, y),
-    };
-    out.push(sign)?;
-    out.push(x as u8)?;
-    out.push(y as u8)?;
-    Ok(())
 }
 
 // Puts the claim's bytes behind those that are there.
@@ -100,7 +74,7 @@ fn write(claim: &Claim, out: &mut Vec<u8>) -> Result<(), AllocError>
     ensures { OnOk result (out.new.items ≡ out.old.items ++ row (said claim.now)) }
 {
     match claim {
-        Claim::Atom(a) => push_atom(*a, out),
+        Claim::Atom(atom) => atom.push(out),
         Claim::Not(c) => {
             out.push(4)?;
             write(c, out)

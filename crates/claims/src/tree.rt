@@ -1,9 +1,11 @@
 // A claim as a tree, and the claims that are put together of others.
 ghost use Rattle.std.specs.Prelude.{◌≡◌, IfOk};
-ghost use Rattle.claims.specs.Claims.{not1, and1, some, within, single, next, before};
+ghost use Rattle.claims.specs.Claims.{not1, and1, some, within, single, next, before, multiple};
 ghost use Rattle.claims.specs.Trees.{said};
 
-use crate::atom::Atom;
+use kinds::atom::Atom;
+use kinds::multiple::Multiple;
+use kinds::relation::Relation;
 use std::alloc::{AllocError, Global};
 
 /// A claim about finite sets of places, each a number: one without parts, the opposite of one, two
@@ -20,28 +22,35 @@ pub enum Claim {
 pub fn within(x: usize, y: usize) -> Claim
     ensures { said result ≡ within x y }
 {
-    Claim::Atom(Atom::Within(x, y))
+    Claim::Atom(Atom::Related(Relation::Within(x, y)))
 }
 
 /// Set x has exactly one place.
 pub fn single(x: usize) -> Claim
     ensures { said result ≡ single x }
 {
-    Claim::Atom(Atom::Single(x))
+    Claim::Atom(Atom::Related(Relation::Single(x)))
 }
 
 /// Sets x and y have one place each, and y's comes just behind x's.
 pub fn next(x: usize, y: usize) -> Claim
     ensures { said result ≡ next x y }
 {
-    Claim::Atom(Atom::Next(x, y))
+    Claim::Atom(Atom::Related(Relation::Next(x, y)))
 }
 
 /// Sets x and y have one place each, and x's comes before y's.
 pub fn before(x: usize, y: usize) -> Claim
     ensures { said result ≡ before x y }
 {
-    Claim::Atom(Atom::Before(x, y))
+    Claim::Atom(Atom::Related(Relation::Before(x, y)))
+}
+
+/// A set has a multiple of so many places, and so many besides.
+pub fn multiple(m: Multiple) -> Claim
+    ensures { said result ≡ multiple m }
+{
+    Claim::Atom(Atom::Counted(m))
 }
 
 /// The opposite.

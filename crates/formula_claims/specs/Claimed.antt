@@ -1,7 +1,8 @@
 -- What is made of a formula and a list of the names in it: the bytes of its claim, or the refusal that applies.
 use Rattle.std.specs.Prelude.{◌≡◌, ℕ, ◌<◌, ◌↔◌, List, length}
 use Rattle.words.specs.Words.{Word, Columns, sets}
-use Rattle.claims.specs.Claims.{C, Only, Of, has}
+use Rattle.claims.specs.Claims.{C, Of, has}
+use Rattle.kinds.specs.Relations.{Only}
 use Rattle.claims.specs.Rows.{Claim}
 use Rattle.claims.specs.Encoded as encoded
 use Rattle.formulas.specs.declared.name.Name.{Name}

@@ -3,7 +3,8 @@ use Rattle.std.proofs.Common.{◌≡◌, ℕ, ◌<◌, Bool, true, ◌↔◌, []
 use Rattle.std.proofs.lemmas.Bool.{ltb-true, lt-ltb, eq-eqb, ne_eqb, and_parts, and_from, and_right, not_from_true, not_from_false, both_ways}
 use Rattle.std.proofs.lemmas.Option.{same_Some}
 use Rattle.automata.specs.Subsets.{Live}
-use Rattle.automata.specs.Tables.{Alike, Collapsed, Connected, run}
+use Rattle.automata.specs.Tables.{Alike, Collapsed, Connected}
+use Rattle.words.specs.Runs.{run}
 use Rattle.automata.proofs.Decisions.{bool_iff}
 use Rattle.automata.proofs.Decisions.{stable}
 use Rattle.automata.proofs.Live.{live?}

@@ -4,7 +4,8 @@ use Rattle.words.specs.Languages.{Lang}
 use Rattle.words.specs.Words.{Word}
 use Rattle.claims.specs.Claims.{C, Of}
 use Rattle.automata.specs.Search.{Ranked}
-use Rattle.automata.specs.Tables.{Collapsed, Table, run}
+use Rattle.automata.specs.Tables.{Collapsed, Table}
+use Rattle.words.specs.Runs.{run}
 use Rattle.automata.specs.Worked.{Worked}
 use Rattle.automata.proofs.Counting.{pigeon}
 use Rattle.automata.proofs.FirstWords.{ordered_same}

@@ -6,7 +6,8 @@ use Rattle.words.specs.Languages.{Lang}
 use Rattle.words.specs.Order.{Less}
 use Rattle.words.specs.Words.{Word, Columns}
 use Rattle.automata.specs.Search.{Ranked}
-use Rattle.automata.specs.Tables.{Table, run}
+use Rattle.automata.specs.Tables.{Table}
+use Rattle.words.specs.Runs.{run}
 use Rattle.automata.proofs.FirstWords.{first_word}
 use Rattle.automata.proofs.Tables.{run_below}
 use Rattle.automata.proofs.Working.{not_table}

@@ -1,7 +1,7 @@
 -- The declared names have their numbers for places in the list of names, so a row gives them what it shows.
 use Rattle.std.proofs.Common.{◌≡◌, ℕ, suc, ◌+◌, ◌≤◌, List, [], ◌∷◌, map, length, sym, refl, ap, subst, inl, inr, arith}
 use Rattle.words.specs.Words.{Word, bit, sets}
-use Rattle.claims.specs.Claims.{Only}
+use Rattle.kinds.specs.Relations.{Only}
 use Rattle.formulas.specs.declared.name.Name.{Name as Numbered}
 use Rattle.formulas.specs.declared.name.Name.TheVariants.{OfPlace, OfGroup}
 use Rattle.formulas.specs.Names.{Among}

@@ -2,7 +2,7 @@
 use Rattle.std.specs.Prelude.{ℕ, suc, List, [], ◌∷◌, map, length, ◌⊎◌}
 use Rattle.words.specs.Words.{Word, Columns, bit, sets}
 use Rattle.words.specs.Order.{Less}
-use Rattle.claims.specs.Claims.{Only}
+use Rattle.kinds.specs.Relations.{Only}
 use Rattle.claims.specs.Sizes.{Fits}
 use Rattle.formulas.specs.Sets.{lowest}
 use Rattle.formulas.specs.Meaning.{Env}

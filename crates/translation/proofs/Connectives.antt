@@ -1,7 +1,8 @@
 -- What claims say of places: those without parts, and those that are put together.
 use Rattle.std.proofs.Common.{◌≡◌, ℕ, zero, suc, ◌<◌, Bool, true, false, not, List, ◌⊎◌, ◌↔◌, sym, refl, ◌∙◌, subst, inl, inr, arith}
 use Rattle.words.specs.Words.{Sets}
-use Rattle.claims.specs.Claims.{C, before, next, within, single, and1, some, Holds, Only, put}
+use Rattle.claims.specs.Claims.{C, before, next, within, single, and1, some, Holds, put}
+use Rattle.kinds.specs.Relations.{Only}
 use Rattle.claims.specs.Places.{one}
 use Rattle.claims.proofs.PlacesLaws.{only_one}
 use Rattle.translation.specs.Translation.{signed, or1, some_place, lies, is_first}

@@ -4,7 +4,8 @@ use mathlib.Core.Path.{fun_ext}
 use Rattle.words.specs.Bits.{put_bit}
 use Rattle.words.specs.Words.{Sets, Word, sets}
 use Rattle.words.proofs.BitsLaws.{bit_put, bit_zero}
-use Rattle.claims.specs.Claims.{C, Holds, Only, put}
+use Rattle.claims.specs.Claims.{C, Holds, put}
+use Rattle.kinds.specs.Relations.{Only}
 use Rattle.claims.proofs.PlacesLaws.{put_other}
 use Rattle.automata.proofs.Told.{told}
 

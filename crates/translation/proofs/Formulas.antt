@@ -1,7 +1,8 @@
 -- The claim that is made of a formula holds exactly if the formula does.
 use Rattle.std.proofs.Common.{◌≡◌, ℕ, ◌<◌, Bool, true, false, not, Option, Some, None, ◌↔◌, List, ◌∷◌, ◌++◌, sym, refl, ◌∙◌, subst, inl, inr}
 use Rattle.words.specs.Words.{Sets, Word, sets}
-use Rattle.claims.specs.Claims.{C, within, and1, some, before, Holds, Of, Only, has, put}
+use Rattle.claims.specs.Claims.{C, within, and1, some, before, Holds, Of, has, put}
+use Rattle.kinds.specs.Relations.{Only}
 use Rattle.claims.specs.Places.{one}
 use Rattle.claims.proofs.PlacesLaws.{put_same, only_one}
 use Rattle.claims.specs.declared.atom.Atom.{Atom}

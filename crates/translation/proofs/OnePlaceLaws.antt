@@ -3,7 +3,8 @@ use Rattle.std.proofs.Common.{◌≡◌, ℕ, suc, ◌<◌, Bool, true, false, c
 use mathlib.Core.Bool.{false≢true}
 use Rattle.std.proofs.lemmas.Bool.Decides.{eqb_tells}
 use Rattle.words.specs.Words.{Sets}
-use Rattle.claims.specs.Claims.{Holds, Only, has}
+use Rattle.claims.specs.Claims.{Holds, has}
+use Rattle.kinds.specs.Relations.{Only}
 use Rattle.claims.specs.Places.{one}
 use Rattle.claims.specs.Atoms.{first, second}
 use Rattle.claims.specs.declared.atom.Atom.{Atom}

@@ -1,7 +1,8 @@
 -- What is judged of a formula: that its places are places and that it holds of what the word says.
 use Rattle.std.proofs.Common.{◌≡◌, ℕ, zero, suc, Bool, true, false, cond, ◌↔◌, List, [], ◌∷◌, map, sym, refl, ◌∙◌, subst, inl, inr, arith}
 use Rattle.words.specs.Words.{Sets, Word, sets, bit}
-use Rattle.claims.specs.Claims.{C, and1, single, Holds, Of, Only, has}
+use Rattle.claims.specs.Claims.{C, and1, single, Holds, Of, has}
+use Rattle.kinds.specs.Relations.{Only}
 use Rattle.formulas.specs.declared.name.Name.{Name}
 use Rattle.formulas.specs.declared.name.Name.TheVariants.{OfPlace, OfGroup}
 use Rattle.formulas.specs.declared.formula.Formula.{Formula}

@@ -2,7 +2,8 @@
 use Rattle.std.proofs.Common.{◌≡◌, ℕ, suc, ◌-◌, Bool, true, false, not, ◌&&◌, ◌||◌, ◌⊎◌, ◌↔◌, List, [], ◌∷◌, sym, refl, ◌∙◌, subst, inl, inr, arith}
 use mathlib.Core.Bool.{false≢true}
 use Rattle.words.specs.Words.{Sets}
-use Rattle.claims.specs.Claims.{C, next, before, not1, and1, some, Holds, Only, has, put}
+use Rattle.claims.specs.Claims.{C, next, before, not1, and1, some, Holds, has, put}
+use Rattle.kinds.specs.Relations.{Only}
 use Rattle.claims.specs.Places.{one}
 use Rattle.claims.proofs.PlacesLaws.{only_one}
 use Rattle.formulas.specs.declared.name.Name.TheVariants.{OfPlace, OfGroup}

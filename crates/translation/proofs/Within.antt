@@ -2,7 +2,8 @@
 use Rattle.std.proofs.Common.{◌≡◌, ℕ, Bool, true, ◌&&◌, ◌||◌, ◌↔◌, List, [], ◌++◌, sym, refl, ◌∙◌, inl, inr}
 use mathlib.Core.Bool.{false≢true}
 use Rattle.words.specs.Words.{Sets}
-use Rattle.claims.specs.Claims.{C, within, and1, not1, Holds, Only, has, put}
+use Rattle.claims.specs.Claims.{C, within, and1, not1, Holds, has, put}
+use Rattle.kinds.specs.Relations.{Only}
 use Rattle.claims.specs.Places.{one}
 use Rattle.claims.proofs.PlacesLaws.{put_same}
 use Rattle.formulas.specs.declared.name.Name.{Name}

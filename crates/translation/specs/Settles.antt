@@ -1,7 +1,8 @@
 -- What the claim of a formula says of a word.
 use Rattle.std.specs.Prelude.{ℕ, true, cond, ◌↔◌, List, [], ◌∷◌, map}
 use Rattle.words.specs.Words.{Sets, Word, bit, sets}
-use Rattle.claims.specs.Claims.{C, single, and1, Only, Of}
+use Rattle.claims.specs.Claims.{C, single, and1, Of}
+use Rattle.kinds.specs.Relations.{Only}
 use Rattle.formulas.specs.declared.name.Name.{Name}
 use Rattle.formulas.specs.declared.name.Name.TheVariants.{OfPlace, OfGroup}
 use Rattle.formulas.specs.declared.formula.Formula.{Formula}

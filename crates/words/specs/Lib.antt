@@ -3,3 +3,4 @@ pub mod Words
 pub mod Bits
 pub mod Order
 pub mod Languages
+pub mod Runs
