@@ -1,16 +1,15 @@
 -- Every claim's language is regular, so it can be told of every word whether it holds.
 use Rattle.std.proofs.Common.{ℕ, zero, suc, ◌+◌, ◌^◌, ◌<◌, ◌≤◌, T, ltb, [], ◌∷◌, inl, inr, pow-suc, arith, ltb→lt}
 use Rattle.words.specs.Words.{Columns, Word}
-use Rattle.claims.specs.Claims.{C, Of, and1, before, next, not1, single, some, within}
+use Rattle.claims.specs.Claims.{C, Of, and1, atom, not1, some}
 use Rattle.claims.specs.Laws.{Told}
 use Rattle.claims.specs.Rows.{ok}
 use Rattle.claims.proofs.FrontLaws.{both_passed}
-use Rattle.claims.specs.declared.atom.Atom.TheVariants.{Within, Single, Next, Before}
 use Rattle.automata.proofs.Agreement.{SomeBut}
 use Rattle.automata.proofs.Beyond.{Beyond, some_beyond}
 use Rattle.automata.proofs.Projection.{regular_but, regular_zeros}
 use Rattle.automata.proofs.Regular.{Regular, regular_and, regular_iff, regular_not}
-use Rattle.automata.proofs.Residuals.{atom_regular}
+use Rattle.automata.proofs.Atoms.{atom_regular}
 
 -- the sets under some are among the k
 abbrev pub Bound : ℕ → C → Type 0
@@ -26,10 +25,7 @@ bound k (some x c) t = let (a, b) = both_passed (ltb x k) (ok k c) t in (ltb→l
 bound k _ t = tt
 
 pub regular : (k : ℕ) (c : C) → Bound k c → Regular k (Of c)
-regular k (within x y) t = atom_regular k (Within x y)
-regular k (single x) t = atom_regular k (Single x)
-regular k (next x y) t = atom_regular k (Next x y)
-regular k (before x y) t = atom_regular k (Before x y)
+regular k (atom a) t = atom_regular k a
 regular k (not1 c) t = regular_not k (Of c) (regular k c t)
 regular k (and1 c d) t = regular_and k (Of c) (Of d) (regular k c t.0) (regular k d t.1)
 regular k (some x c) t =

@@ -1,21 +1,16 @@
 -- Working a claim out, part by part: what each part hands on, or that the claim does not fit.
-use Rattle.std.proofs.Common.{◌≡◌, ℕ, ◌^◌, ◌<◌, ◌≤◌, Bool, true, not, ◌&&◌, ◌↔◌, List, ◌++◌, length, refl, ap}
-use Rattle.words.specs.Languages.{Classes, Lang, SameLeft}
+use Rattle.std.proofs.Common.{◌≡◌, ℕ, ◌^◌, ◌<◌, ◌≤◌, Bool, true, not, ◌&&◌, ◌↔◌, ◌++◌, refl, ap}
+use Rattle.words.specs.Languages.{Lang, SameLeft}
 use Rattle.words.specs.Words.{Columns, Word}
 use Rattle.claims.specs.Claims.{C, Of, and1, not1, some}
 use Rattle.claims.specs.Sizes.{Apart, Fits}
 use Rattle.automata.specs.Joined.{Joined, Written}
-use Rattle.claims.specs.Atoms.{atom}
-use Rattle.claims.specs.declared.atom.Atom.{Atom}
-use Rattle.claims.specs.declared.atom.Atom.TheVariants.{Within}
-use Rattle.automata.specs.Residuals.{ends, moves, whole}
 use Rattle.automata.specs.Product.{Pair, left, pair, right, step_pair}
 use Rattle.automata.specs.Search.{Explored, TooMany}
 use Rattle.automata.specs.Subsets.{Completes, Live, accepts_set, start_set, step_set}
-use Rattle.automata.specs.Tables.{Collapsed, Exact, Table}
+use Rattle.automata.specs.Tables.{Exact, Table}
 use Rattle.words.specs.Runs.{run}
 use Rattle.automata.specs.Worked.{Shown, Worked}
-use Rattle.automata.specs.declared.residual.Residual.{Residual}
 use Rattle.automata.proofs.Beyond.{Beyond, some_beyond}
 use Rattle.automata.proofs.Decisions.{not_same, not_true}
 use Rattle.automata.proofs.Explored.{explored_exact, explored_table}
@@ -23,35 +18,8 @@ use Rattle.automata.proofs.Exploring.{too_many}
 use Rattle.automata.proofs.FirstWords.{ordered_same}
 use Rattle.automata.proofs.Joined.{written_collapsed, written_ordered, written_table}
 use Rattle.automata.proofs.Product.{product_exact, product_from, product_table, product_to}
-use Rattle.automata.proofs.Residuals.{atom_explored}
 use Rattle.automata.proofs.Subsets.{accepts_says, but_left, subset_apart, subset_ext, subset_same, subset_says}
-use Rattle.automata.proofs.Tables.{collapsed_same, exact_many, exact_top, table_exact, table_same}
-
--- A claim without parts tells apart what leaves something different of it, and fits where its
--- classes do.
-pub atom_top : (k n : ℕ) (a : Atom) → ((ws : List Word) × Classes k (SameLeft k (Of (atom a))) ws × (length ws ≤ n)) ↔ Fits k n (atom a)
-atom_top k n (Within x y) = (λ t. t, λ t. t)
-atom_top k n _ = (λ t. t, λ t. t)
-
--- Its classes are those of the table of its residuals, searched and joined: g is the acceptance
--- that the joining saw.
-module _ (k n : ℕ) (a : Atom) (m : ℕ) (at : ℕ → Residual) (δ : ℕ → ℕ → ℕ) (g : ℕ → Bool) (e : Explored k (moves a) (whole a) m at δ) (same : (q : ℕ) → q < m → g q ≡ ends (at q)) (cls rep : ℕ → ℕ) (o : ℕ) (j : Joined k m δ g cls rep o) where
-  module _ (δ' : ℕ → ℕ → ℕ) (f' : ℕ → Bool) (w : Written k δ g cls rep o δ' f') where
-    atom_written : Table k (Of (atom a)) o δ' f'
-    atom_written = written_table k m δ (λ q. ends (at q)) g cls rep o δ' f' e.connected j same w (Of (atom a)) (atom_explored k a m at δ e)
-
-    atom_collapsed : Collapsed k o δ' f'
-    atom_collapsed = written_collapsed k m δ (λ q. ends (at q)) g cls rep o δ' f' e.connected j same w
-
-    atom_exact : Exact k (SameLeft k (Of (atom a))) o δ'
-    atom_exact = table_exact k (Of (atom a)) o δ' f' atom_written atom_collapsed
-
-    pub worked_atom : o ≤ n → Worked k n (atom a) o δ' f'
-    worked_atom h = record { table = atom_written; ordered = written_ordered k m δ (λ q. ends (at q)) g cls rep o δ' f' e.connected j same w e.ordered; collapsed = atom_collapsed; fits = (atom_top k n a).0 (exact_top k (SameLeft k (Of (atom a))) o n δ' atom_exact h) }
-
-  pub many_atom : n < o → Fits k n (atom a) → ⊥
-  many_atom h t =
-      exact_many k (SameLeft k (Of (atom a))) o n (λ i b. cls (δ (rep i) b)) (atom_exact (λ i b. cls (δ (rep i) b)) (λ i. g (rep i)) record { steps = λ i b _ _. refl; accepts = λ i _. refl }) h ((atom_top k n a).1 t)
+use Rattle.automata.proofs.Tables.{collapsed_same, exact_top, table_exact, table_same}
 
 -- not: the same classes
 pub not_table : (k : ℕ) (L : Lang) (m : ℕ) (δ : ℕ → ℕ → ℕ) (f : ℕ → Bool) → Table k L m δ f → Table k (λ w. L w → ⊥) m δ (λ q. not (f q))

@@ -1,7 +1,5 @@
 // The theory of tables over columns. What it says of every claim stands on the contracts of the
 // functions in `laws`, so that no check passes without its proof.
-// Its one type of code is what is left of a claim without parts.
 #![tactic(auto)]
 
 pub mod laws;
-pub mod residual;

@@ -47,7 +47,7 @@ places_none (suc n) = let e = places_none n in omega arith
 abbrev Left : ℕ → ℕ → ℕ → ℕ → Sets → Type 0
 Left m r x q v = (n : ℕ) × (t : ℕ) × Ends (v x) n × (places (v x) n + q ≡ t * m + r)
 
-turned : (m q : ℕ) → q < m → ((suc q ≡ m) × (turn m q ≡ 0)) ⊎ ((suc q ≡ m → ⊥) × (turn m q ≡ suc q))
+pub turned : (m q : ℕ) → q < m → ((suc q ≡ m) × (turn m q ≡ 0)) ⊎ ((suc q ≡ m → ⊥) × (turn m q ≡ suc q))
 turned m q h = elim (leb_tells (suc (suc q)) m) [ inl p ↦ inr (λ e. omega (arith, p.1), rw p.0) | inr p ↦ inl (omega (arith, p.1), rw p.0) ]
 
 module _ (m r x : ℕ) (hr : r < m) where
@@ -92,7 +92,7 @@ module _ (m r x : ℕ) (hr : r < m) where
   turn_below : (q : ℕ) → q < m → turn m q < m
   turn_below q h = elim (turned m q h) [ inl g ↦ omega arith | inr g ↦ omega arith ]
 
-  stays : (q : ℕ) (b : Bool) → q < m → cond b (turn m q) q < m
+  pub stays : (q : ℕ) (b : Bool) → q < m → cond b (turn m q) q < m
   stays q true h = turn_below q h
   stays q false h = h
 

@@ -1,0 +1,2 @@
+pub mod EqualSetsLaws
+pub mod CountedLaws

@@ -1,0 +1,3 @@
+-- How many classes claims without parts have.
+pub mod EqualSets
+pub mod Counted
