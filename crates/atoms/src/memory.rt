@@ -1,17 +1,16 @@
-// Memory in which what is left of an atom is found.
-ghost use Rattle.std.specs.Prelude.{◌≤◌};
-ghost use Rattle.claims.specs.Atoms.{Named};
+// Memory in which the states of a machine are found.
+ghost use Rattle.std.specs.Prelude.{◌≤◌, length};
+ghost use Rattle.kinds.specs.Atoms.{sets_of};
 
-use automata::residual::Residual;
-use claims::atom::Atom;
+use crate::kind::Kind;
 
-/// The residuals of a claim without parts about some of `sets` sets, as states: number i is
-/// found[i]. There are nine, and there is room for one more.
-#[derive(Clone, Copy)]
-pub struct States {
-    pub atom: Atom,
+/// The states that the machine of a claim reaches over words of `sets` sets: number i is found[i].
+/// There are at most sixteen, and there is room for one more.
+pub struct States<'m, K: Kind> {
+    pub kind: K,
     pub sets: u32,
-    pub found: [Residual; 10],
-    ghost named: { Named sets atom },
+    pub found: &'m mut [K::State],
+    ghost named: { sets_of (K.atom kind) ≤ sets },
     ghost narrow: { sets ≤ 12 },
+    ghost room: { 17 ≤ length found.now },
 }

@@ -1,52 +1,64 @@
-// The residuals of an atom as they are found. They are few, so one is looked for among those found
+// The states of a machine as they are found. They are few, so one is looked for among those found
 // by comparing.
-ghost use Rattle.std.specs.Prelude.{◌≡◌, ℕ, ◌<◌, ◌≢◌, length, slice_index_or, MatchOption};
-ghost use Rattle.automata.specs.declared.residual.Residual.{Residual};
-ghost use Rattle.automata.specs.declared.residual.Residual.TheVariants.{Dead};
-ghost use Rattle.atoms.specs.States.{states_of};
+ghost use Rattle.std.specs.Prelude.{◌≡◌, ℕ, ◌<◌, ◌≢◌, ◌⊎◌, length, slice_index_or, MatchOption};
+ghost use Rattle.atoms.specs.States.{reading};
 
+use crate::kind::Kind;
 use crate::memory::States;
-use automata::residual::Residual;
-use words::bits::{Set, has_bit};
 use worklist::explore::Frontier;
 
-// The number of a residual among those found, or that it is not there.
-fn find(found: &[Residual], state: Residual) -> Option<usize>
-    ensures { MatchOption result ((j : ℕ) → j < length found.now → slice_index_or found.now j Dead ≢ state) (λ j. (j < length found.now) × (slice_index_or found.now j Dead ≡ state)) }
+// The number of a state among those found, or that it is not there.
+fn find<K: Kind>(found: &[K::State], state: K::State) -> Option<usize>
+    ensures { MatchOption result ((d : K.State) (j : ℕ) → j < length found.now → slice_index_or found.now j d ≢ state) (λ j. (j < length found.now) × ((d : K.State) → slice_index_or found.now j d ≡ state)) }
 {
-    found.iter().position(|other| *other == state)
+    found.iter().position(|other| K::same(*other, state))
 }
 
-impl Frontier for States {
-    ghost Thing = { Residual };
+// The number of a state, which is put behind the first m found where it is none of them.
+fn enter<K: Kind>(found: &mut [K::State], m: usize, state: K::State) -> usize
+    requires { m < length found.old }
+    ensures kept { (d : K.State) (p : ℕ) → p < m → slice_index_or found.new p d ≡ slice_index_or found.old p d }
+    ensures here { (d : K.State) → slice_index_or found.new result d ≡ state }
+    ensures old_or_new { (result < m) ⊎ ((result ≡ m) × ((d : K.State) (p : ℕ) → p < m → slice_index_or found.old p d ≢ state)) }
+{
+    match find::<K>(&found[..m], state) {
+        Some(j) => j,
+        None => {
+            found[m] = state;
+            m
+        }
+    }
+}
 
-    type Origin = Residual;
+impl<K: Kind> Frontier for States<'_, K> {
+    ghost Thing = { K.State };
 
-    ghost seen = { states_of };
+    type Origin = K::State;
+
+    ghost seen = { λ f. record {
+        automaton = reading f.sets (K.machine f.kind);
+        room = 17;
+        at = λ i. slice_index_or f.found.now i (K.machine f.kind).start;
+        Holds = λ m. Unit {0};
+    } };
 
     ghost Of = { λ state r. r ≡ state };
 
     fn begin(&mut self) {
-        self.found[0] = Residual::whole(self.atom);
+        self.found[0] = self.kind.start();
     }
 
-    fn open(&self, _m: usize, i: usize) -> Residual {
+    fn open(&self, _m: usize, i: usize) -> K::State {
         self.found[i]
     }
 
-    fn follow(&mut self, m: usize, _i: usize, origin: Residual, a: u32) -> usize {
-        let (x, y) = self.atom.sets();
-        let next = origin.after(has_bit(a, Set(x as u8)), has_bit(a, Set(y as u8)));
-        match find(&self.found[..m], next) {
-            Some(j) => j,
-            None => {
-                self.found[m] = next;
-                m
-            }
-        }
+    fn follow(&mut self, m: usize, _i: usize, origin: K::State, a: u32) -> usize {
+        let next = self.kind.step(origin, a);
+        let found = &mut *self.found;
+        enter::<K>(found, m, next)
     }
 
     fn accepts(&self, _m: usize, i: usize) -> bool {
-        self.found[i].ends()
+        self.kind.ends(self.found[i])
     }
 }
