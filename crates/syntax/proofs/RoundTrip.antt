@@ -139,7 +139,6 @@ mutual
       let p = items_again t ts (again t) (each_again ts) n c kind.Close (41 ∷ []) rest refl refl (refl, refl) x.1.0 x.1.1 o (omega (arith, d)) (omega (arith, le)) in
       let e = no_close t (list_more ts (close ∷ rest)) x.1.0 in
       done n c m (written (call f (more t ts)) rest) (bare (call f (more t ts))) rest (rw x.0 (rw e (rw p (whole_is (bare (call f (more t ts))) rest d)))) (omega (arith, le, h))
-
   again (counted t i j) n c m rest x o d l s le = absurd x
   again (tallied t i j) n c m rest x o d l s le =
       let h = longer t (tally i j rest) in
