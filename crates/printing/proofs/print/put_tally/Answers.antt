@@ -1,4 +1,4 @@
-use Rattle.std.proofs.Common.{ℕ, List, ◌∷◌, ◌∙◌}
+use Rattle.std.proofs.Common.{List, ◌∷◌, ◌∙◌}
 use Rattle.std.specs.Prelude.{decimal}
 use Rattle.tokens.specs.declared.kind.Kind.TheVariants as kind
 use Rattle.tokens.specs.Words.{Word, word}
