@@ -1,4 +1,5 @@
 pub mod NumbersLaws
+pub mod Opened
 pub mod Families
 pub mod Standing
 pub mod Connectives

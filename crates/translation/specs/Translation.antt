@@ -2,7 +2,7 @@
 -- Two things are not said twice: that a set is a place where what is claimed of it says so already (is_sure, is_sure_in, sure), and the opposite of an opposite (claim_as).
 use Rattle.std.specs.Prelude.{ℕ, Bool, true, false, not, ◌&&◌, ◌||◌, Option, Some, None, is_none, [], ◌∷◌, ◌++◌, ◌==◌}
 use Rattle.claims.specs.Claims.{C, within, single, next, before, not1, and1, some}
-use Rattle.claims.specs.declared.atom.Atom.{Atom}
+use Rattle.kinds.specs.declared.relation.Relation.{Relation}
 use Rattle.formulas.specs.declared.name.Name.TheVariants.{OfPlace, OfGroup}
 use Rattle.formulas.specs.declared.formula.Place.{Place}
 use Rattle.formulas.specs.declared.formula.Group.{Group}
@@ -12,7 +12,7 @@ use Rattle.formulas.specs.declared.formula.Group.TheVariants.{Named as group, Em
 use Rattle.formulas.specs.declared.formula.Formula.TheVariants.{True, Same, Less, In, Sub, Not', And', Or', Implies', Some1', All1', Some2', All2'}
 use Rattle.formulas.specs.Names.{names_place, names_group, names, without}
 use Rattle.translation.specs.Numbers.{Numbering, numbered, numbers, fresh}
-use Rattle.translation.specs.OnePlace.{is_named, atom_of, claim_of}
+use Rattle.translation.specs.OnePlace.{is_named, relation_of, claim_of}
 
 -- a claim, or its opposite
 abbrev pub signed : Bool → C → C
@@ -139,15 +139,15 @@ sure (Not' _ a) b x = sure a (not b) x
 sure (And' _ a _ c) b x = b && (sure a true x || sure c true x)
 sure (Or' _ a _ c) b x = not b && (sure a false x || sure c false x)
 sure (Implies' _ a _ c) b x = not b && (sure a true x || sure c false x)
-sure (Some1' y _ a) b x = b && (is_none (atom_of y a) && (not (x == y) && sure a true x))
+sure (Some1' y _ a) b x = b && (is_none (relation_of y a) && (not (x == y) && sure a true x))
 sure (All1' y _ a) b x = not b && (not (x == y) && sure a false x)
 sure (Some2' y _ a) b x = b && sure a true x
 sure (All2' y _ a) b x = not b && sure a false x
 
--- the claim of the atom, if there is one, else c
-abbrev pub atom_or : Option Atom → Numbering → C → C
-atom_or (Some a) ρ c = claim_of ρ a
-atom_or None ρ c = c
+-- the claim of the relation, if there is one, else c
+abbrev pub relation_or : Option Relation → Numbering → C → C
+relation_or (Some a) ρ c = claim_of ρ a
+relation_or None ρ c = c
 
 -- the claim of the formula, if b is true, or of its opposite
 abbrev pub claim_as : Formula → Bool → Numbering → C
@@ -168,7 +168,7 @@ claim_as (Or' _ a _ c) b ρ = signed (not b) (and1 (claim_as a false ρ) (claim_
 claim_as (Implies' _ a _ c) b ρ = signed (not b) (and1 (claim_as a true ρ) (claim_as c false ρ))
 claim_as (Some1' x _ a) b ρ =
     let m = fresh (numbers ρ (without (OfPlace x) (names a))) in
-    signed b (atom_or (atom_of x a) ρ (some_place (sure a true x) m (claim_as a true (numbered ρ (OfPlace x) m))))
+    signed b (relation_or (relation_of x a) ρ (some_place (sure a true x) m (claim_as a true (numbered ρ (OfPlace x) m))))
 claim_as (All1' x _ a) b ρ =
     let m = fresh (numbers ρ (without (OfPlace x) (names a))) in
     signed (not b) (some_place (sure a false x) m (claim_as a false (numbered ρ (OfPlace x) m)))
