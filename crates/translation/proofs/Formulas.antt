@@ -11,7 +11,7 @@ use Rattle.formulas.specs.declared.formula.Place.{Place}
 use Rattle.formulas.specs.declared.formula.Group.{Group}
 use Rattle.formulas.specs.declared.formula.Formula.{Formula}
 use Rattle.formulas.specs.declared.formula.Place.TheVariants.{Named as place}
-use Rattle.formulas.specs.declared.formula.Formula.TheVariants.{True, Same, Less, In, Sub, Not', And', Or', Implies', Some1', All1', Some2', All2'}
+use Rattle.formulas.specs.declared.formula.Formula.TheVariants.{True, Same, Less, In, Sub, Count, Not', And', Or', Implies', Some1', All1', Some2', All2'}
 use Rattle.formulas.specs.Meaning.{Env, with_place, with_group, value, members, Meaning}
 use Rattle.formulas.specs.Names.{names_place, names_group, names, without, Among}
 use Rattle.formulas.proofs.NamesLaws.{among_left}
@@ -27,6 +27,7 @@ use Rattle.translation.proofs.Terms.{fresh_head, fresh_tail, about_says, place_s
 use Rattle.translation.proofs.OnePlaceLaws.{relation_of_says}
 use Rattle.translation.proofs.Sureness.{about_sure, bound_sure}
 use Rattle.translation.proofs.Within.{within_says}
+use Rattle.translation.proofs.Counted.{counted_says}
 
 same_other : (p q : Place) (ρ : Numbering) (e : Env) (m : ℕ) (v : Sets) → Family v → Stand v ρ e (names_place p ++ names_place q) → (Among m (numbers ρ (names_place p ++ names_place q)) → ⊥) →
     Holds (about ρ q m (is_place q ρ m) (is_sure p) (λ b. is_place p ρ b)) v ↔ (value p e ≡ value q e)
@@ -83,6 +84,7 @@ says_as (Same p q) b ρ e v f s = signed_says b (claim (Same p q) ρ) v (same_sa
 says_as (Less p q) b ρ e v f s = signed_says b (claim (Less p q) ρ) v (less_says p q ρ e v f s)
 says_as (In p g) b ρ e v f s = signed_says b (claim (In p g) ρ) v (in_says p g ρ e v f s)
 says_as (Sub g h) b ρ e v f s = let l = names_group g ++ names_group h in signed_says b (claim (Sub g h) ρ) v (within_says g h ρ e (fresh (numbers ρ l)) v f s (fresh_free (numbers ρ l)))
+says_as (Count g r) b ρ e v f s = signed_says b (claim (Count g r) ρ) v (counted_says g r ρ e v f s)
 says_as (Not' _ a) b ρ e v f s = iff_trans (says_as a (not b) ρ e v f s) (not_said b (dec_of (claim_as a true ρ) v f (says_as a true ρ e v f s)))
 says_as (And' _ a _ c) b ρ e v f s =
     signed_says b (and1 (claim_as a true ρ) (claim_as c true ρ)) v

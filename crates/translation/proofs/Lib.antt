@@ -5,6 +5,8 @@ pub mod Standing
 pub mod Connectives
 pub mod Terms
 pub mod Within
+pub mod HowMany
+pub mod Counted
 pub mod OnePlaceLaws
 pub mod Sureness
 pub mod Formulas

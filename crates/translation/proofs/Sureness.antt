@@ -10,7 +10,7 @@ use Rattle.formulas.specs.declared.name.Name.TheVariants.{OfPlace, OfGroup}
 use Rattle.formulas.specs.declared.formula.Place.{Place}
 use Rattle.formulas.specs.declared.formula.Place.TheVariants.{Named as place}
 use Rattle.formulas.specs.declared.formula.Formula.{Formula}
-use Rattle.formulas.specs.declared.formula.Formula.TheVariants.{True, Same, Less, In, Sub, Not', And', Or', Implies', Some1', All1', Some2', All2'}
+use Rattle.formulas.specs.declared.formula.Formula.TheVariants.{True, Same, Less, In, Sub, Count, Not', And', Or', Implies', Some1', All1', Some2', All2'}
 use Rattle.formulas.specs.Names.{names_place, names_group, names, without, Among}
 use Rattle.formulas.proofs.NamesLaws.{among_left, among_right, among_without}
 use Rattle.formulas.proofs.SetsLaws.{or_true, and_true}
@@ -50,6 +50,7 @@ sure_among (Less s t) false x q = absurd (false≢true q)
 sure_among (In t s) true x q = among_left (OfPlace x) (names_place t) (names_group s) (named_among x t ((and_true (is_named x t) (is_sure_in s)).1 q).0)
 sure_among (In t s) false x q = absurd (false≢true q)
 sure_among (Sub s t) b x q = absurd (false≢true q)
+sure_among (Count s r) b x q = absurd (false≢true q)
 sure_among (Not' _ a) b x q = sure_among a (not b) x q
 sure_among (And' _ a _ c) true x q = elim ((or_true (sure a true x) (sure c true x)).1 q) [
   | inl r ↦ among_left (OfPlace x) (names a) (names c) (sure_among a true x r)
@@ -143,6 +144,7 @@ sure_says (In t s) true x ρ q =
     about_named x t ρ m (is_place t ρ m) (is_sure_in s) (λ a. is_in s ρ a) r.0 (group_sure s ρ (ρ (OfPlace x)) r.1)
 sure_says (In t s) false x ρ q = absurd (false≢true q)
 sure_says (Sub s t) b x ρ q = absurd (false≢true q)
+sure_says (Count s r) b x ρ q = absurd (false≢true q)
 sure_says (Not' _ a) b x ρ q = sure_says a (not b) x ρ q
 sure_says (And' _ a _ c) true x ρ q = elim ((or_true (sure a true x) (sure c true x)).1 q) [
   | inl r ↦ sure_left (claim_as c true ρ) (sure_says a true x ρ r)

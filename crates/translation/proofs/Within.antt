@@ -27,10 +27,10 @@ use Rattle.translation.proofs.Connectives.{at_says, lies_says, iff_trans, iff_no
 use Rattle.translation.proofs.Terms.{lies_sure, group_sure, group_says}
 
 -- set n is the set u
-abbrev IsSet : Sets → ℕ → List Bool → Type 0
+abbrev pub IsSet : Sets → ℕ → List Bool → Type 0
 IsSet v n u = (i : ℕ) → (v n i ≡ true) ↔ (has u i ≡ true)
 
-named_set : (v : Sets) (n : ℕ) (u : List Bool) → ((i : ℕ) → v n i ≡ has u i) → IsSet v n u
+pub named_set : (v : Sets) (n : ℕ) (u : List Bool) → ((i : ℕ) → v n i ≡ has u i) → IsSet v n u
 named_set v n u s i = (λ h. sym (s i) ∙ h, λ h. s i ∙ h)
 
 named_place : (v : Sets) (n i : ℕ) → Only v n i → IsSet v n (one i)
@@ -46,7 +46,7 @@ second_of : (k l n : List Name) (y : Name) → Among y (l ++ n) → Among y ((k 
 second_of k l n y h = elim (among_either y l n h) [ inl g ↦ among_left y (k ++ l) n (among_right y k l g) | inr g ↦ among_right y (k ++ l) n g ]
 
 -- m is none of the numbers of h; the claim c says of a place, as set m, that it is in the set u
-each_says : (b : Bool) (c : C) (u : List Bool) (h : Group) (ρ : Numbering) (e : Env) (m : ℕ) (v : Sets) → (b ≡ true → Sure m c) → Family v → Stand v ρ e (names_group h) → (Among m (numbers ρ (names_group h)) → ⊥) →
+pub each_says : (b : Bool) (c : C) (u : List Bool) (h : Group) (ρ : Numbering) (e : Env) (m : ℕ) (v : Sets) → (b ≡ true → Sure m c) → Family v → Stand v ρ e (names_group h) → (Among m (numbers ρ (names_group h)) → ⊥) →
     ((t : Sets) (i : ℕ) → Family t → Agree m v t → Only t m i → Holds c t ↔ (has u i ≡ true)) →
     Holds (each_in ρ b c h m) v ↔ ((i : ℕ) → has u i ≡ true → has (members h e) i ≡ true)
 each_says b c u h ρ e m v sure f s d k =
@@ -70,7 +70,7 @@ union_within u w z =
     )
 
 -- set n is the set u, and m is neither n nor one of the numbers of t
-set_says : (n : ℕ) (u : List Bool) (t : Group) (ρ : Numbering) (e : Env) (m : ℕ) (v : Sets) → Family v → IsSet v n u → (n ≡ m → ⊥) → Stand v ρ e (names_group t) → (Among m (numbers ρ (names_group t)) → ⊥) →
+pub set_says : (n : ℕ) (u : List Bool) (t : Group) (ρ : Numbering) (e : Env) (m : ℕ) (v : Sets) → Family v → IsSet v n u → (n ≡ m → ⊥) → Stand v ρ e (names_group t) → (Among m (numbers ρ (names_group t)) → ⊥) →
     Holds (set_within ρ n t m) v ↔ ((i : ℕ) → has u i ≡ true → has (members t e) i ≡ true)
 set_says n u (group y) ρ e m v f p r s d = within_sets v n (ρ (OfGroup y)) u (e.groups y) p (named_set v (ρ (OfGroup y)) (e.groups y) (s (OfGroup y) (inl refl)))
 set_says n u Empty ρ e m v f p r s d =

@@ -1,7 +1,8 @@
 -- The claim that is made of a formula. A place is the set of it alone. A name that a quantifier binds gets the lowest number that no set has which its part speaks of.
 -- Two things are not said twice: that a set is a place where what is claimed of it says so already (is_sure, is_sure_in, sure), and the opposite of an opposite (claim_as).
 use Rattle.std.specs.Prelude.{ℕ, Bool, true, false, not, ◌&&◌, ◌||◌, Option, Some, None, is_none, [], ◌∷◌, ◌++◌, ◌==◌}
-use Rattle.claims.specs.Claims.{C, within, single, next, before, not1, and1, some}
+use Rattle.claims.specs.Claims.{C, within, single, next, before, multiple, not1, and1, some}
+use Rattle.kinds.specs.declared.multiple.Remainder.{Remainder}
 use Rattle.kinds.specs.declared.relation.Relation.{Relation}
 use Rattle.formulas.specs.declared.name.Name.TheVariants.{OfPlace, OfGroup}
 use Rattle.formulas.specs.declared.formula.Place.{Place}
@@ -9,7 +10,7 @@ use Rattle.formulas.specs.declared.formula.Group.{Group}
 use Rattle.formulas.specs.declared.formula.Formula.{Formula}
 use Rattle.formulas.specs.declared.formula.Place.TheVariants.{Named as place, First, Succ', Prev', Least', Most'}
 use Rattle.formulas.specs.declared.formula.Group.TheVariants.{Named as group, Empty, Only', Union', Inter', Minus'}
-use Rattle.formulas.specs.declared.formula.Formula.TheVariants.{True, Same, Less, In, Sub, Not', And', Or', Implies', Some1', All1', Some2', All2'}
+use Rattle.formulas.specs.declared.formula.Formula.TheVariants.{True, Same, Less, In, Sub, Count, Not', And', Or', Implies', Some1', All1', Some2', All2'}
 use Rattle.formulas.specs.Names.{names_place, names_group, names, without}
 use Rattle.translation.specs.Numbers.{Numbering, numbered, numbers, fresh}
 use Rattle.translation.specs.OnePlace.{is_named, relation_of, claim_of}
@@ -123,6 +124,15 @@ is_within ρ (Only' _ (place x)) t m = set_within ρ (ρ (OfPlace x)) t m
 is_within ρ (Union' _ r _ s) t m = and1 (is_within ρ r t m) (is_within ρ s t m)
 is_within ρ s t m = each_in ρ (is_sure_in s) (is_in s ρ m) t m
 
+-- and every place of s, tried as set m, is one of set n
+abbrev pub within_set : Numbering → Group → ℕ → ℕ → C
+within_set ρ s n m = not1 (some_place (is_sure_in s) m (and1 (is_in s ρ m) (not1 (lies m n))))
+
+-- s has as many places as the remainder says: it is said of its own set if it has a name, else of set m, which has the places of s, tried as set n, and no others
+abbrev pub is_counted : Numbering → Group → Remainder → ℕ → ℕ → C
+is_counted ρ (group x) r m n = multiple (record { remainder = r; set = ρ (OfGroup x) })
+is_counted ρ s r m n = some m (and1 (set_within ρ m s n) (and1 (within_set ρ s m n) (multiple (record { remainder = r; set = m }))))
+
 -- whether the claim that both are the same place, above, is sure of the set of the place x: the place that has a name, the first if both have, is said to be the other
 abbrev pub sure_same : ℕ → Place → Place → Bool
 sure_same x (place y) t = y == x && is_sure t
@@ -135,6 +145,7 @@ sure (Same s t) b x = b && sure_same x s t
 sure (Less s t) b x = b && (is_named x s || is_named x t)
 sure (In t s) b x = b && (is_named x t && is_sure_in s)
 sure (Sub s t) b x = false
+sure (Count s r) b x = false
 sure (Not' _ a) b x = sure a (not b) x
 sure (And' _ a _ c) b x = b && (sure a true x || sure c true x)
 sure (Or' _ a _ c) b x = not b && (sure a false x || sure c false x)
@@ -162,6 +173,10 @@ claim_as (In t s) b ρ =
     let m = fresh (numbers ρ (names_place t ++ names_group s)) in
     signed b (about ρ t m (is_place t ρ m) (is_sure_in s) (λ a. is_in s ρ a))
 claim_as (Sub s t) b ρ = signed b (is_within ρ s t (fresh (numbers ρ (names_group s ++ names_group t))))
+claim_as (Count s r) b ρ =
+    let l = numbers ρ (names_group s) in
+    let m = fresh l in
+    signed b (is_counted ρ s r m (fresh (m ∷ l)))
 claim_as (Not' _ a) b ρ = claim_as a (not b) ρ
 claim_as (And' _ a _ c) b ρ = signed b (and1 (claim_as a true ρ) (claim_as c true ρ))
 claim_as (Or' _ a _ c) b ρ = signed (not b) (and1 (claim_as a false ρ) (claim_as c false ρ))
