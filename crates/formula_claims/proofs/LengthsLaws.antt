@@ -1,9 +1,10 @@
 -- The claim of a formula is as long as its shape says.
 use Rattle.std.proofs.Common.{◌≡◌, ℕ, ◌+◌, Bool, true, false, cond, not, ◌||◌, Option, Some, None, List, ◌∷◌, ◌++◌, [], length, refl, ◌∙◌, arith, length-append}
-use Rattle.claims.specs.Claims.{C, within, before, not1, and1, single, some}
+use Rattle.claims.specs.Claims.{C, within, before, multiple, not1, and1, single, some}
 use Rattle.claims.specs.Rows.{row}
-use Rattle.claims.specs.declared.atom.Atom.{Atom}
-use Rattle.claims.specs.declared.atom.Atom.TheVariants.{Within, Single, Next, Before}
+use Rattle.kinds.specs.declared.multiple.Remainder.{Remainder}
+use Rattle.kinds.specs.declared.relation.Relation.{Relation}
+use Rattle.kinds.specs.declared.relation.Relation.TheVariants.{Within, Single, Next, Before}
 use Rattle.formulas.specs.declared.name.Name.{Name}
 use Rattle.formulas.specs.declared.name.Name.TheVariants.{OfPlace, OfGroup}
 use Rattle.formulas.specs.declared.formula.Place.{Place}
@@ -11,13 +12,13 @@ use Rattle.formulas.specs.declared.formula.Group.{Group}
 use Rattle.formulas.specs.declared.formula.Formula.{Formula}
 use Rattle.formulas.specs.declared.formula.Place.TheVariants.{Named as place, First, Succ', Prev', Least', Most'}
 use Rattle.formulas.specs.declared.formula.Group.TheVariants.{Named as group, Empty, Only', Union', Inter', Minus'}
-use Rattle.formulas.specs.declared.formula.Formula.TheVariants.{True, Same, Less, In, Sub, Not', And', Or', Implies', Some1', All1', Some2', All2'}
+use Rattle.formulas.specs.declared.formula.Formula.TheVariants.{True, Same, Less, In, Sub, Count, Not', And', Or', Implies', Some1', All1', Some2', All2'}
 use Rattle.formulas.specs.Names.{names_place, names_group, names, without}
 use Rattle.translation.specs.Numbers.{Numbering, numbered, numbers, fresh}
-use Rattle.translation.specs.Translation.{signed, or1, some_place, lies, is_first, is_before, is_end, is_sure, is_sure_in, sure, about, behind, is_place, is_in, is_same, each_in, set_within, is_within, atom_or, claim_as}
-use Rattle.translation.specs.OnePlace.{atom_of}
+use Rattle.translation.specs.Translation.{signed, or1, some_place, lies, is_first, is_before, is_end, is_sure, is_sure_in, sure, about, behind, is_place, is_in, is_same, each_in, set_within, is_within, within_set, set_counted, is_counted, relation_or, claim_as}
+use Rattle.translation.specs.OnePlace.{relation_of}
 use Rattle.translation.specs.Settles.{singles}
-use Rattle.formula_claims.specs.Lengths.{sign_length, some_length, about_length, behind_length, place_length, group_length, same_length, each_length, set_within_length, within_length, or_length, formula_length, places_length}
+use Rattle.formula_claims.specs.Lengths.{sign_length, some_length, about_length, behind_length, place_length, group_length, same_length, each_length, set_within_length, within_length, within_set_length, counted_length, or_length, formula_length, places_length}
 
 abbrev bytes : C → ℕ
 bytes c = length (row c)
@@ -96,6 +97,28 @@ within_bytes ρ (Only' _ (place x)) t m = set_within_bytes ρ (ρ (OfPlace x)) t
 within_bytes ρ (Union' _ r _ s) t m = let p = within_bytes ρ r t m in let q = within_bytes ρ s t m in and_bytes (is_within ρ r t m) (is_within ρ s t m) ∙ omega arith
 within_bytes ρ s t m = each_bytes ρ (is_sure_in s) (is_in s ρ m) t m (group_length s) (group_bytes s ρ m)
 
+within_set_bytes : (ρ : Numbering) (s : Group) (n m : ℕ) → bytes (within_set ρ s n m) ≡ within_set_length s
+within_set_bytes ρ s n m =
+    let c = and1 (is_in s ρ m) (not1 (lies m n)) in
+    let p = group_bytes s ρ m in
+    let q = some_bytes (is_sure_in s) m c (group_length s + 8) (and_bytes (is_in s ρ m) (not1 (lies m n)) ∙ omega arith) in
+    omega arith
+
+set_counted_bytes : (ρ : Numbering) (s : Group) (r : Remainder) (m n : ℕ) → bytes (some m (set_counted ρ s r m n)) ≡ set_within_length s + within_set_length s + 8
+set_counted_bytes ρ s r m n =
+    let c = set_within ρ m s n in
+    let d = within_set ρ s m n in
+    let k = multiple (record { remainder = r; set = m }) in
+    let p = set_within_bytes ρ m s n in
+    let q = within_set_bytes ρ s m n in
+    let u = and_bytes d k in
+    let w = and_bytes c (and1 d k) in
+    omega arith
+
+counted_bytes : (ρ : Numbering) (s : Group) (r : Remainder) (m n : ℕ) → bytes (is_counted ρ s r m n) ≡ counted_length s
+counted_bytes ρ (group x) r m n = refl
+counted_bytes ρ s r m n = set_counted_bytes ρ s r m n
+
 same_bytes : (ρ : Numbering) (s t : Place) (m : ℕ) → bytes (is_same ρ s t m) ≡ same_length s t
 same_bytes ρ (place x) t m = place_bytes t ρ (ρ (OfPlace x))
 same_bytes ρ s t m = about_bytes ρ t m (is_place t ρ m) (is_sure s) (λ b. is_place s ρ b) (place_length t) (place_length s) (place_bytes t ρ m) (λ b. place_bytes s ρ b)
@@ -117,12 +140,12 @@ in_bytes t s ρ =
 both_bytes : (b : Bool) (c d : C) (i j : ℕ) → bytes c ≡ i → bytes d ≡ j → bytes (signed b (and1 c d)) ≡ i + j + 1 + sign_length b
 both_bytes b c d i j p q = signed_bytes b (and1 c d) (i + j + 1) (and_bytes c d ∙ omega arith)
 
-atom_bytes : (p : Option Atom) (ρ : Numbering) (c : C) (i : ℕ) → bytes c ≡ i → bytes (atom_or p ρ c) ≡ or_length p i
-atom_bytes None ρ c i q = q
-atom_bytes (Some (Within y z)) ρ c i q = refl
-atom_bytes (Some (Single y)) ρ c i q = refl
-atom_bytes (Some (Next y z)) ρ c i q = refl
-atom_bytes (Some (Before y z)) ρ c i q = refl
+relation_bytes : (p : Option Relation) (ρ : Numbering) (c : C) (i : ℕ) → bytes c ≡ i → bytes (relation_or p ρ c) ≡ or_length p i
+relation_bytes None ρ c i q = q
+relation_bytes (Some (Within y z)) ρ c i q = refl
+relation_bytes (Some (Single y)) ρ c i q = refl
+relation_bytes (Some (Next y z)) ρ c i q = refl
+relation_bytes (Some (Before y z)) ρ c i q = refl
 
 pub formula_bytes : (a : Formula) (b : Bool) (ρ : Numbering) → bytes (claim_as a b ρ) ≡ formula_length a b
 formula_bytes True b ρ = signed_bytes b (within 0 0) 3 refl
@@ -130,6 +153,7 @@ formula_bytes (Same s t) b ρ = let m = fresh (numbers ρ (names_place s ++ name
 formula_bytes (Less s t) b ρ = signed_bytes b (claim_as (Less s t) true ρ) (about_length s (place_length s) true (about_length t (place_length t) true 3)) (less_bytes s t ρ)
 formula_bytes (In t s) b ρ = signed_bytes b (claim_as (In t s) true ρ) (about_length t (place_length t) (is_sure_in s) (group_length s)) (in_bytes t s ρ)
 formula_bytes (Sub s t) b ρ = let m = fresh (numbers ρ (names_group s ++ names_group t)) in signed_bytes b (is_within ρ s t m) (within_length s t) (within_bytes ρ s t m)
+formula_bytes (Count s r) b ρ = let l = numbers ρ (names_group s) in let m = fresh l in let n = fresh (m ∷ l) in signed_bytes b (is_counted ρ s r m n) (counted_length s) (counted_bytes ρ s r m n)
 formula_bytes (Not' _ a) b ρ = formula_bytes a (not b) ρ
 formula_bytes (And' _ a _ c) b ρ = both_bytes b (claim_as a true ρ) (claim_as c true ρ) (formula_length a true) (formula_length c true) (formula_bytes a true ρ) (formula_bytes c true ρ)
 formula_bytes (Or' _ a _ c) b ρ = both_bytes (not b) (claim_as a false ρ) (claim_as c false ρ) (formula_length a false) (formula_length c false) (formula_bytes a false ρ) (formula_bytes c false ρ)
@@ -138,7 +162,7 @@ formula_bytes (Some1' x _ a) b ρ =
     let m = fresh (numbers ρ (without (OfPlace x) (names a))) in
     let c = claim_as a true (numbered ρ (OfPlace x) m) in
     let i = formula_length a true + some_length (sure a true x) in
-    signed_bytes b (atom_or (atom_of x a) ρ (some_place (sure a true x) m c)) (or_length (atom_of x a) i) (atom_bytes (atom_of x a) ρ (some_place (sure a true x) m c) i
+    signed_bytes b (relation_or (relation_of x a) ρ (some_place (sure a true x) m c)) (or_length (relation_of x a) i) (relation_bytes (relation_of x a) ρ (some_place (sure a true x) m c) i
     (some_bytes (sure a true x) m c (formula_length a true) (formula_bytes a true (numbered ρ (OfPlace x) m))))
 formula_bytes (All1' x _ a) b ρ =
     let m = fresh (numbers ρ (without (OfPlace x) (names a))) in

@@ -14,14 +14,14 @@ use crate::length::formula_length;
 use crate::scope::{Scope, position};
 use crate::sure::sure;
 use crate::translate::translate;
-use crate::tree::{and, atom};
-use claims::atom::Atom;
+use crate::tree::{and, related};
 use claims::encode;
 use claims::encode::MOST_BYTES;
 use claims::tree::Claim;
 use formulas::formula::Formula;
 use formulas::free::free_names;
 use formulas::name::Name;
+use kinds::relation::Relation;
 use std::alloc::{AllocError, Global};
 use thiserror::Error;
 
@@ -107,7 +107,7 @@ fn with_places(
     for name in names {
         if let Name::OfPlace(x) = name {
             if !sure(formula, true, *x) {
-                let place = atom(alloc, Atom::Single(position(names, *name)))?;
+                let place = related(alloc, Relation::Single(position(names, *name)))?;
                 whole = and(alloc, place, whole)?;
             }
         }

@@ -3,10 +3,10 @@
 ghost use Rattle.std.specs.Prelude.{◌≡◌, ℕ, ◌+◌, min, true};
 ghost use Rattle.formula_claims.specs.Lengths;
 
-use crate::one_place::atom_of;
+use crate::one_place::relation_of;
 use crate::sure::{is_sure, is_sure_in, sure};
-use claims::atom::Atom;
 use formulas::formula::{Formula, Group, Place};
+use kinds::atom::Atom;
 
 /// The bytes of the formula's claim, or where it is not to hold of its opposite's.
 pub fn formula_length(formula: &Formula, holds: bool) -> usize
@@ -18,6 +18,7 @@ pub fn formula_length(formula: &Formula, holds: bool) -> usize
         Formula::Less(s, t) => signed(less_length(s, t), holds),
         Formula::In(t, s) => signed(about_length(t, is_sure_in(s), group_length(s)), holds),
         Formula::Sub(s, t) => signed(within_length(s, t), holds),
+        Formula::Count(s, _) => signed(counted_length(s), holds),
         Formula::Not(a) => formula_length(a, !holds),
         Formula::And(a, b) => {
             let both = sum(formula_length(a, true), formula_length(b, true), 1);
@@ -32,8 +33,8 @@ pub fn formula_length(formula: &Formula, holds: bool) -> usize
             signed(fails, !holds)
         }
         Formula::Some1(x, a) => {
-            let some = match atom_of(*x, a) {
-                Some(atom) => atom_length(atom),
+            let some = match relation_of(*x, a) {
+                Some(relation) => Atom::Related(relation).length(),
                 None => some_length(sure(a, true, *x), formula_length(a, true)),
             };
             signed(some, holds)
@@ -52,16 +53,6 @@ fn signed(n: usize, holds: bool) -> usize
     ensures { (m : ℕ) → n ≡ min m usize.MAX → result ≡ min (m + Lengths.sign_length holds) usize.MAX }
 {
     if holds { n } else { n.saturating_add(1) }
-}
-
-// A sign and its sets.
-fn atom_length(atom: Atom) -> usize
-    ensures { result ≡ Lengths.atom_length atom }
-{
-    match atom {
-        Atom::Single(_) => 2,
-        _ => 3,
-    }
 }
 
 // There is a place of which a claim of n bytes holds.
@@ -171,5 +162,21 @@ fn set_within_length(t: &Group) -> usize
         },
         Group::Inter(s, t) => sum(set_within_length(s), set_within_length(t), 1),
         _ => each_length(true, 6, t),
+    }
+}
+
+// Each place of s, tried as a set, is one of a set.
+fn within_set_length(s: &Group) -> usize
+    ensures { result ≡ min (Lengths.within_set_length s.now) usize.MAX }
+{
+    some_length(is_sure_in(s), group_length(s).saturating_add(9))
+}
+
+fn counted_length(s: &Group) -> usize
+    ensures { result ≡ min (Lengths.counted_length s.now) usize.MAX }
+{
+    match s {
+        Group::Named(_) => 4,
+        _ => sum(set_within_length(s), within_set_length(s), 8),
     }
 }

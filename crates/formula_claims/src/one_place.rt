@@ -1,12 +1,12 @@
-// Formulas that say in places what a claim without parts says of sets: that a set has one place, X = {x}; that two sets have one place each and one comes
+// Formulas that say in places what a relation says of sets: that a set has one place, X = {x}; that two sets have one place each and one comes
 // just behind the other, X = {x} & Y = {x + 1}; or further on, X = {x} & Y = {y} & x < y. Of X = {x} the two inclusions are said, in either order, or x in X in
 // place of the one. Sets are given by their names.
-ghost use Rattle.std.specs.Prelude.{◌≡◌, ◌^◌, IfSome};
-ghost use Rattle.claims.specs.Atoms.{Named};
+ghost use Rattle.std.specs.Prelude.{◌≡◌, IfSome};
+ghost use Rattle.formula_claims.specs.Relations.{Named};
 ghost use Rattle.translation.specs.OnePlace;
 
-use claims::atom::Atom;
 use formulas::formula::{Formula, Group, Place};
+use kinds::relation::Relation;
 
 // Whether the place is that name's.
 pub fn is_named(x: u32, place: &Place) -> bool
@@ -96,15 +96,15 @@ fn point_of(behind: bool, x: u32, formula: &Formula) -> Option<u32>
 }
 
 // The two sets whose one places x and the place behind it are.
-fn next_of(x: u32, formula: &Formula) -> Option<Atom>
+fn next_of(x: u32, formula: &Formula) -> Option<Relation>
     ensures found { result ≡ OnePlace.next_of x formula.now }
-    ensures named { IfSome result (λ a. Named (2 ^ 32) a) }
+    ensures named { IfSome result (λ r. Named r) }
 {
     let Formula::And(a, b) = formula else {
         return None;
     };
     match (point_of(false, x, a), point_of(true, x, b)) {
-        (Some(y), Some(z)) => Some(Atom::Next(y as usize, z as usize)),
+        (Some(y), Some(z)) => Some(Relation::Next(y as usize, z as usize)),
         _ => None,
     }
 }
@@ -120,23 +120,23 @@ fn is_less(x: u32, y: u32, formula: &Formula) -> bool
 }
 
 // The two sets whose one places x and y are.
-fn points_of(x: u32, y: u32, formula: &Formula) -> Option<Atom>
+fn points_of(x: u32, y: u32, formula: &Formula) -> Option<Relation>
     ensures found { result ≡ OnePlace.points_of x y formula.now }
-    ensures named { IfSome result (λ a. Named (2 ^ 32) a) }
+    ensures named { IfSome result (λ r. Named r) }
 {
     let Formula::And(a, b) = formula else {
         return None;
     };
     match (point_of(false, x, a), point_of(false, y, b)) {
-        (Some(k), Some(l)) => Some(Atom::Before(k as usize, l as usize)),
+        (Some(k), Some(l)) => Some(Relation::Before(k as usize, l as usize)),
         _ => None,
     }
 }
 
 // The two sets whose one places x and y are, where x comes before y.
-fn ordered_of(x: u32, y: u32, formula: &Formula) -> Option<Atom>
+fn ordered_of(x: u32, y: u32, formula: &Formula) -> Option<Relation>
     ensures found { result ≡ OnePlace.ordered_of x y formula.now }
-    ensures named { IfSome result (λ a. Named (2 ^ 32) a) }
+    ensures named { IfSome result (λ r. Named r) }
 {
     match formula {
         Formula::And(a, b) if is_less(x, y, b) => points_of(x, y, a),
@@ -145,9 +145,9 @@ fn ordered_of(x: u32, y: u32, formula: &Formula) -> Option<Atom>
 }
 
 // The same of some place y.
-fn before_of(x: u32, formula: &Formula) -> Option<Atom>
+fn before_of(x: u32, formula: &Formula) -> Option<Relation>
     ensures found { result ≡ OnePlace.before_of x formula.now }
-    ensures named { IfSome result (λ a. Named (2 ^ 32) a) }
+    ensures named { IfSome result (λ r. Named r) }
 {
     match formula {
         Formula::Some1(y, a) if x != *y => ordered_of(x, *y, a),
@@ -156,15 +156,15 @@ fn before_of(x: u32, formula: &Formula) -> Option<Atom>
 }
 
 // What is said of sets, by their names, by that there is a place x of which the formula holds, if it is just that.
-pub fn atom_of(x: u32, formula: &Formula) -> Option<Atom>
-    ensures found { result ≡ OnePlace.atom_of x formula.now }
-    ensures named { IfSome result (λ a. Named (2 ^ 32) a) }
+pub fn relation_of(x: u32, formula: &Formula) -> Option<Relation>
+    ensures found { result ≡ OnePlace.relation_of x formula.now }
+    ensures named { IfSome result (λ r. Named r) }
 {
     if let Some(y) = point_of(false, x, formula) {
-        return Some(Atom::Single(y as usize));
+        return Some(Relation::Single(y as usize));
     }
     match next_of(x, formula) {
-        Some(atom) => Some(atom),
+        Some(relation) => Some(relation),
         None => before_of(x, formula),
     }
 }

@@ -2,7 +2,7 @@
 ghost use Rattle.std.specs.Prelude.{◌≡◌};
 ghost use Rattle.translation.specs.Translation;
 
-use crate::one_place::{atom_of, is_named};
+use crate::one_place::{is_named, relation_of};
 use formulas::formula::{Formula, Group, Place};
 
 // The claim that a set is the place.
@@ -43,7 +43,7 @@ pub fn sure(formula: &Formula, holds: bool, x: u32) -> bool
     ensures { result ≡ Translation.sure formula.now holds x }
 {
     match formula {
-        Formula::True | Formula::Sub(_, _) => false,
+        Formula::True | Formula::Sub(_, _) | Formula::Count(_, _) => false,
         Formula::Same(s, t) => holds && sure_same(x, s, t),
         Formula::Less(s, t) => holds && (is_named(x, s) || is_named(x, t)),
         Formula::In(t, s) => holds && (is_named(x, t) && is_sure_in(s)),
@@ -52,7 +52,7 @@ pub fn sure(formula: &Formula, holds: bool, x: u32) -> bool
         Formula::Or(a, b) => !holds && (sure(a, false, x) || sure(b, false, x)),
         Formula::Implies(a, b) => !holds && (sure(a, true, x) || sure(b, false, x)),
         Formula::Some1(y, a) => {
-            holds && (atom_of(*y, a).is_none() && (x != *y && sure(a, true, x)))
+            holds && (relation_of(*y, a).is_none() && (x != *y && sure(a, true, x)))
         }
         Formula::All1(y, a) => !holds && (x != *y && sure(a, false, x)),
         Formula::Some2(_, a) => holds && sure(a, true, x),

@@ -3,8 +3,8 @@ ghost use Rattle.std.specs.Prelude.{◌≡◌, [], ◌∷◌, IfOk};
 ghost use Rattle.formulas.specs.Names.{names_place, names_group};
 ghost use Rattle.translation.specs.Numbers.{numbers, fresh};
 ghost use Rattle.translation.specs.Translation;
-ghost use Rattle.claims.specs.Atoms.{atom as of_atom};
-ghost use Rattle.claims.specs.Claims.{not1, and1, some};
+ghost use Rattle.kinds.specs.declared.atom.Atom.TheVariants.{Related};
+ghost use Rattle.claims.specs.Claims.{atom, not1, and1, some};
 ghost use Rattle.claims.specs.Trees.{said};
 ghost use Rattle.formula_claims.specs.Scope.{number_of};
 ghost use Rattle.formula_claims.specs.Points;
@@ -12,13 +12,14 @@ ghost use Rattle.formula_claims.specs.Points;
 use crate::scope::{Scope, fresh};
 use crate::sure::{is_sure, is_sure_in};
 use crate::tree::{
-    and, and_not, atom, is_before, is_first, lies, no_place, no_set, not, or, some_place, some_set,
+    and, and_not, is_before, is_first, lies, no_place, no_set, not, or, related, some_place,
+    some_set,
 };
-use claims::atom::Atom;
 use claims::tree::Claim;
 use formulas::formula::{Group, Place};
 use formulas::free::{push_group, push_place};
 use formulas::name::Name;
+use kinds::relation::Relation;
 use std::alloc::{AllocError, Global};
 
 // Set n, if it is a place, is the place that the term means.
@@ -46,11 +47,11 @@ pub fn is_place(
         }
         Place::Least(s) => {
             let m = beside_group(alloc, n, s, scope)?;
-            is_end(alloc, s, scope, m, n, Atom::Before(m, n))
+            is_end(alloc, s, scope, m, n, Relation::Before(m, n))
         }
         Place::Most(s) => {
             let m = beside_group(alloc, n, s, scope)?;
-            is_end(alloc, s, scope, m, n, Atom::Before(n, m))
+            is_end(alloc, s, scope, m, n, Relation::Before(n, m))
         }
     }
 }
@@ -63,9 +64,9 @@ fn is_end(
     scope: &Scope,
     m: usize,
     n: usize,
-    beyond: Atom,
+    beyond: Relation,
 ) -> Result<Box<Claim>, AllocError>
-    ensures { IfOk result (λ c. said c.value ≡ Translation.is_end m n (Translation.is_in group.now (number_of scope.now) n) (Translation.is_sure_in group.now) (Translation.is_in group.now (number_of scope.now) m) (of_atom beyond)) }
+    ensures { IfOk result (λ c. said c.value ≡ Translation.is_end m n (Translation.is_in group.now (number_of scope.now) n) (Translation.is_sure_in group.now) (Translation.is_in group.now (number_of scope.now) m) (atom (Related beyond))) }
 {
     let in_n = is_in(alloc, group, scope, n)?;
     let in_m = is_in(alloc, group, scope, m)?;
@@ -82,11 +83,11 @@ fn is_outermost(
     in_n: Box<Claim>,
     m: usize,
     in_m: Box<Claim>,
-    beyond: Atom,
+    beyond: Relation,
 ) -> Result<Box<Claim>, AllocError>
-    ensures { IfOk result (λ r. said r.value ≡ and1 (said in_n.value) (not1 (some m (and1 (of_atom beyond) (said in_m.value))))) }
+    ensures { IfOk result (λ r. said r.value ≡ and1 (said in_n.value) (not1 (some m (and1 (atom (Related beyond)) (said in_m.value))))) }
 {
-    let further = and(alloc, atom(alloc, beyond)?, in_m)?;
+    let further = and(alloc, related(alloc, beyond)?, in_m)?;
     let none_further = no_set(alloc, m, further)?;
     and(alloc, in_n, none_further)
 }
@@ -118,7 +119,7 @@ pub fn is_in(
 {
     match group {
         Group::Named(x) => lies(alloc, n, scope.number(Name::OfGroup(*x))),
-        Group::Empty => not(alloc, atom(alloc, Atom::Within(n, n))?),
+        Group::Empty => not(alloc, related(alloc, Relation::Within(n, n))?),
         Group::Only(t) => is_place(alloc, t, scope, n),
         Group::Union(s, t) => {
             let in_s = is_in(alloc, s, scope, n)?;
@@ -200,10 +201,10 @@ fn behind(
     ensures { IfOk result (λ r. said r.value ≡ Translation.behind (number_of scope.now) place.now m (Translation.is_place place.now (number_of scope.now) m) n) }
 {
     match place {
-        Place::Named(x) => atom(alloc, Atom::Next(scope.number(Name::OfPlace(*x)), n)),
+        Place::Named(x) => related(alloc, Relation::Next(scope.number(Name::OfPlace(*x)), n)),
         t => {
             let is_t = is_place(alloc, t, scope, m)?;
-            let both = and(alloc, is_t, atom(alloc, Atom::Next(m, n))?)?;
+            let both = and(alloc, is_t, related(alloc, Relation::Next(m, n))?)?;
             some_set(alloc, m, both)
         }
     }

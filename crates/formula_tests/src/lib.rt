@@ -3,3 +3,5 @@
 
 #[cfg(test)]
 mod claimed;
+#[cfg(test)]
+mod counted;

@@ -1,5 +1,5 @@
 -- What a formula means: which place a term for a place is, which set a term for a set, and when a formula holds.
-use Rattle.std.specs.Prelude.{◌≡◌, ℕ, suc, ◌-◌, ◌<◌, Bool, true, cond, ◌&&◌, ◌||◌, not, ◌⊎◌, List, [], ◌==◌}
+use Rattle.std.specs.Prelude.{◌≡◌, ℕ, suc, ◌+◌, ◌*◌, ◌-◌, ◌<◌, Bool, true, cond, ◌&&◌, ◌||◌, not, ◌⊎◌, List, [], ◌==◌}
 use Rattle.claims.specs.Claims.{has}
 use Rattle.claims.specs.Places.{one}
 use Rattle.formulas.specs.declared.formula.Place.{Place}
@@ -7,8 +7,8 @@ use Rattle.formulas.specs.declared.formula.Group.{Group}
 use Rattle.formulas.specs.declared.formula.Formula.{Formula}
 use Rattle.formulas.specs.declared.formula.Place.TheVariants.{Named as place, First, Succ', Prev', Least', Most'}
 use Rattle.formulas.specs.declared.formula.Group.TheVariants.{Named as group, Empty, Only', Union', Inter', Minus'}
-use Rattle.formulas.specs.declared.formula.Formula.TheVariants.{True, Same, Less, In, Sub, Not', And', Or', Implies', Some1', All1', Some2', All2'}
-use Rattle.formulas.specs.Sets.{mix, lowest, highest}
+use Rattle.formulas.specs.declared.formula.Formula.TheVariants.{True, Same, Less, In, Sub, Count, Not', And', Or', Implies', Some1', All1', Some2', All2'}
+use Rattle.formulas.specs.Sets.{mix, lowest, highest, how_many}
 
 -- which place each name of a place is, and which finite set each name of a set
 pub record Env : Type 0 where
@@ -47,6 +47,7 @@ Meaning (Same s t) e = value s e ≡ value t e
 Meaning (Less s t) e = value s e < value t e
 Meaning (In t s) e = has (members s e) (value t e) ≡ true
 Meaning (Sub s t) e = (i : ℕ) → has (members s e) i ≡ true → has (members t e) i ≡ true
+Meaning (Count s r) e = (t : ℕ) × (how_many (members s e) ≡ t * r.modulus + r.rest)
 Meaning (Not' _ a) e = Meaning a e → ⊥
 Meaning (And' _ a _ b) e = Meaning a e × Meaning b e
 Meaning (Or' _ a _ b) e = Meaning a e ⊎ Meaning b e

@@ -7,7 +7,7 @@ use Rattle.formulas.specs.declared.formula.Group.{Group}
 use Rattle.formulas.specs.declared.formula.Formula.{Formula}
 use Rattle.formulas.specs.declared.formula.Place.TheVariants.{Named as place, First, Succ', Prev', Least', Most'}
 use Rattle.formulas.specs.declared.formula.Group.TheVariants.{Named as group, Empty, Only', Union', Inter', Minus'}
-use Rattle.formulas.specs.declared.formula.Formula.TheVariants.{True, Same, Less, In, Sub, Not', And', Or', Implies', Some1', All1', Some2', All2'}
+use Rattle.formulas.specs.declared.formula.Formula.TheVariants.{True, Same, Less, In, Sub, Count, Not', And', Or', Implies', Some1', All1', Some2', All2'}
 
 abbrev pub same_name : Name → Name → Bool
 same_name (OfPlace x) (OfPlace y) = x == y
@@ -43,6 +43,7 @@ names (Same s t) = names_place s ++ names_place t
 names (Less s t) = names_place s ++ names_place t
 names (In t s) = names_place t ++ names_group s
 names (Sub s t) = names_group s ++ names_group t
+names (Count s r) = names_group s
 names (Not' _ a) = names a
 names (And' _ a _ b) = names a ++ names b
 names (Or' _ a _ b) = names a ++ names b

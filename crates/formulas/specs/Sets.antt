@@ -1,5 +1,5 @@
--- Finite sets of places, each by whether it has place 0, place 1 and so on: sets made of two, and the two ends of a set.
-use Rattle.std.specs.Prelude.{ℕ, suc, Bool, true, false, cond, ◌||◌, List, [], ◌∷◌}
+-- Finite sets of places, each by whether it has place 0, place 1 and so on: sets made of two, the two ends of a set, and how many places it has.
+use Rattle.std.specs.Prelude.{ℕ, suc, ◌+◌, Bool, true, false, cond, ◌||◌, List, [], ◌∷◌}
 
 -- each place by what the two sets say of it
 abbrev pub mix : (Bool → Bool → Bool) → List Bool → List Bool → List Bool
@@ -23,3 +23,8 @@ lowest (false ∷ u) = cond (any u) (suc (lowest u)) 0
 abbrev pub highest : List Bool → ℕ
 highest [] = 0
 highest (b ∷ u) = cond (any u) (suc (highest u)) 0
+
+-- how many places a set has
+abbrev pub how_many : List Bool → ℕ
+how_many [] = 0
+how_many (b ∷ u) = cond b 1 0 + how_many u

@@ -1,6 +1,8 @@
 // A formula as a tree. Names are numbers here: what a name was in a text, the text's reader knows.
 // `t + n` is n times `Succ`, `t - n` n times `Prev`, and the number n is n times `Succ` of `First`.
 
+use kinds::multiple::Remainder;
+
 // A term for a place.
 #[derive(Debug, PartialEq, Drop)]
 #[cycle(terms)]
@@ -25,7 +27,8 @@ pub enum Group {
     Minus(Box<Group>, Box<Group>),
 }
 
-// What may hold of places and sets. `Some1` and `All1` bind a place's name, `Some2` and `All2` a set's.
+// What may hold of places and sets. `Count`: the set has as many places as the remainder says. `Some1`
+// and `All1` bind a place's name, `Some2` and `All2` a set's.
 #[derive(Debug, PartialEq, Drop)]
 pub enum Formula {
     True,
@@ -33,6 +36,7 @@ pub enum Formula {
     Less(Place, Place),
     In(Place, Group),
     Sub(Group, Group),
+    Count(Group, Remainder),
     Not(Box<Formula>),
     And(Box<Formula>, Box<Formula>),
     Or(Box<Formula>, Box<Formula>),

@@ -67,6 +67,7 @@ fn push_formula(alloc: Global, found: &mut Vec<Name>, formula: &Formula) -> Resu
             push_group(found, s)?;
             push_group(found, t)
         }
+        Formula::Count(s, _) => push_group(found, s),
         Formula::Not(a) => push_formula(alloc, found, a),
         Formula::And(a, b) | Formula::Or(a, b) | Formula::Implies(a, b) => {
             push_formula(alloc, found, a)?;

@@ -6,20 +6,25 @@ use Rattle.kinds.specs.Relations.{Only}
 use Rattle.claims.specs.Places.{one}
 use Rattle.claims.proofs.PlacesLaws.{only_one}
 use Rattle.translation.specs.Translation.{signed, or1, some_place, lies, is_first}
+use Rattle.translation.proofs.Opened.{within_holds, single_holds, next_holds, before_holds}
 use Rattle.translation.proofs.Families.{Family, Agree, family_put, holds_or_not, put_agree, only_agree}
 
 -- what claims say of places
 pub next_says : (v : Sets) (a b i j : ℕ) → Only v a i → Only v b j → Holds (next a b) v ↔ (j ≡ suc i)
-next_says v a b i j o p = (λ h. (let (k, r, s) = h in let x = o.1 k r.0 in let y = p.1 (suc k) s.0 in omega arith), λ e. (i, o, subst (Only v b) e p))
+next_says v a b i j o p =
+    let n = next_holds a b v in
+    (λ h. (let (k, r, s) = n.0 h in let x = o.1 k r.0 in let y = p.1 (suc k) s.0 in omega arith), λ e. n.1 (i, o, subst (Only v b) e p))
 
 pub before_says : (v : Sets) (a b i j : ℕ) → Only v a i → Only v b j → Holds (before a b) v ↔ (i < j)
-before_says v a b i j o p = (λ h. (let (k, l, r, s, g) = h in let x = o.1 k r.0 in let y = p.1 l s.0 in omega arith), λ g. (i, j, o, p, g))
+before_says v a b i j o p =
+    let n = before_holds a b v in
+    (λ h. (let (k, l, r, s, g) = n.0 h in let x = o.1 k r.0 in let y = p.1 l s.0 in omega arith), λ g. n.1 (i, j, o, p, g))
 
 pub within_says : (v : Sets) (a b i : ℕ) → Only v a i → Holds (within a b) v ↔ (v b i ≡ true)
-within_says v a b i o = (λ h. h i o.0, λ h j g. subst (λ z. v b z ≡ true) (sym (o.1 j g)) h)
+within_says v a b i o = let n = within_holds a b v in (λ h. n.0 h i o.0, λ h. n.1 (λ j g. subst (λ z. v b z ≡ true) (sym (o.1 j g)) h))
 
 pub lies_says : (v : Sets) (a b i : ℕ) → Only v a i → Holds (lies a b) v ↔ (v b i ≡ true)
-lies_says v a b i o = (λ h. (within_says v a b i o).0 h.1, λ h. ((i, o), (within_says v a b i o).1 h))
+lies_says v a b i o = (λ h. (within_says v a b i o).0 h.1, λ h. ((single_holds a v).1 (i, o), (within_says v a b i o).1 h))
 
 pub at_says : (v : Sets) (b i j : ℕ) → Only v b j → (v b i ≡ true) ↔ (j ≡ i)
 at_says v b i j o = (λ h. sym (o.1 i h), λ e. subst (λ z. v b z ≡ true) e o.0)
@@ -58,8 +63,8 @@ some_place_says true m c v Q sure f h = (
   λ s. (let (i, q) = s in (one i, (h (put v m (one i)) i (family_put v m (one i) f) (put_agree v m (one i)) (only_one v m i)).1 q)),
 )
 some_place_says false m c v Q sure f h = (
-  λ s. (let (u, r) = s in let (p, q) = r in let (i, o) = p in (i, (h (put v m u) i (family_put v m u f) (put_agree v m u) o).0 q)),
-  λ s. (let (i, q) = s in (one i, ((i, only_one v m i), (h (put v m (one i)) i (family_put v m (one i) f) (put_agree v m (one i)) (only_one v m i)).1 q))),
+  λ s. (let (u, r) = s in let (p, q) = r in let (i, o) = (single_holds m (put v m u)).0 p in (i, (h (put v m u) i (family_put v m u f) (put_agree v m u) o).0 q)),
+  λ s. (let (i, q) = s in (one i, ((single_holds m (put v m (one i))).1 (i, only_one v m i), (h (put v m (one i)) i (family_put v m (one i) f) (put_agree v m (one i)) (only_one v m i)).1 q))),
 )
 
 only_back : (k m i : ℕ) (v : Sets) (u : List Bool) → (m ≡ k → ⊥) → Only (put v k u) m i → Only v m i
@@ -77,10 +82,10 @@ first_says m n i v d o = (to i o, from)
   where
     to : (i : ℕ) → Only v n i → Holds (is_first m n) v → i ≡ 0
     to zero o h = refl
-    to (suc i) o h = absurd (h (one i, (i, only_one v m i, only_agree m n (suc i) v (put v m (one i)) (put_agree v m (one i)) d o)))
+    to (suc i) o h = let t = put v m (one i) in absurd (h (one i, (next_holds m n t).1 (i, only_one v m i, only_agree m n (suc i) v t (put_agree v m (one i)) d o)))
 
     from : i ≡ 0 → Holds (is_first m n) v
-    from e h = let (u, p) = h in let (k, r, s) = p in let z = o.1 (suc k) (sym (put_agree v m u n d (suc k)) ∙ s.0) in omega arith
+    from e h = let (u, p) = h in let (k, r, s) = (next_holds m n (put v m u)).0 p in let z = o.1 (suc k) (sym (put_agree v m u n d (suc k)) ∙ s.0) in omega arith
 
 -- the statement, or its opposite
 abbrev pub Said : Bool → Type 0 → Type 0

@@ -5,27 +5,29 @@ use Rattle.claims.specs.Claims.{C, within, and1, some, before, Holds, Of, has, p
 use Rattle.kinds.specs.Relations.{Only}
 use Rattle.claims.specs.Places.{one}
 use Rattle.claims.proofs.PlacesLaws.{put_same, only_one}
-use Rattle.claims.specs.declared.atom.Atom.{Atom}
+use Rattle.kinds.specs.declared.relation.Relation.{Relation}
 use Rattle.formulas.specs.declared.name.Name.TheVariants.{OfPlace, OfGroup}
 use Rattle.formulas.specs.declared.formula.Place.{Place}
 use Rattle.formulas.specs.declared.formula.Group.{Group}
 use Rattle.formulas.specs.declared.formula.Formula.{Formula}
 use Rattle.formulas.specs.declared.formula.Place.TheVariants.{Named as place}
-use Rattle.formulas.specs.declared.formula.Formula.TheVariants.{True, Same, Less, In, Sub, Not', And', Or', Implies', Some1', All1', Some2', All2'}
+use Rattle.formulas.specs.declared.formula.Formula.TheVariants.{True, Same, Less, In, Sub, Count, Not', And', Or', Implies', Some1', All1', Some2', All2'}
 use Rattle.formulas.specs.Meaning.{Env, with_place, with_group, value, members, Meaning}
 use Rattle.formulas.specs.Names.{names_place, names_group, names, without, Among}
 use Rattle.formulas.proofs.NamesLaws.{among_left}
 use Rattle.translation.specs.Numbers.{Numbering, numbered, numbers, fresh}
-use Rattle.translation.specs.Translation.{some_place, is_sure, is_sure_in, sure, about, is_place, is_in, atom_or, claim_as, claim}
-use Rattle.translation.specs.OnePlace.{atom_of}
+use Rattle.translation.specs.Translation.{some_place, is_sure, is_sure_in, sure, about, is_place, is_in, relation_or, claim_as, claim}
+use Rattle.translation.specs.OnePlace.{relation_of}
 use Rattle.translation.proofs.NumbersLaws.{among_part, fresh_free}
+use Rattle.translation.proofs.Opened.{within_itself}
 use Rattle.translation.proofs.Families.{Family, Agree, family_put, put_agree, only_agree}
 use Rattle.translation.proofs.Standing.{Stand, stand_left, stand_right, stand_agree, stand_bind, place_other, group_other, place_here, group_here}
 use Rattle.translation.proofs.Connectives.{before_says, iff_trans, iff_and, Sure, some_place_says, Said, dec_of, signed_says, not_said, either_says, implies_says, all_says}
 use Rattle.translation.proofs.Terms.{fresh_head, fresh_tail, about_says, place_sure, group_sure, before_first, before_second, place_says, group_says}
-use Rattle.translation.proofs.OnePlaceLaws.{atom_of_says}
+use Rattle.translation.proofs.OnePlaceLaws.{relation_of_says}
 use Rattle.translation.proofs.Sureness.{about_sure, bound_sure}
 use Rattle.translation.proofs.Within.{within_says}
+use Rattle.translation.proofs.Counted.{counted_says}
 
 same_other : (p q : Place) (ρ : Numbering) (e : Env) (m : ℕ) (v : Sets) → Family v → Stand v ρ e (names_place p ++ names_place q) → (Among m (numbers ρ (names_place p ++ names_place q)) → ⊥) →
     Holds (about ρ q m (is_place q ρ m) (is_sure p) (λ b. is_place p ρ b)) v ↔ (value p e ≡ value q e)
@@ -69,19 +71,20 @@ in_says p g ρ e v f s =
     (λ t i ft a o. place_says p ρ e m i t ft (stand_left t ρ e k l (on t a)) o)
     (λ t b i ft a r o. group_says g ρ e b i t ft (stand_right t ρ e k l (on t a)) o)
 
--- there is a place of which the formula holds, whether that is an atom or not
-atom_or_says : (p : Option Atom) (a : Formula) (x : ℕ) (ρ : Numbering) (e : Env) (c : C) (v : Sets) → atom_of x a ≡ p → Stand v ρ e (without (OfPlace x) (names a)) →
-    Holds c v ↔ ((i : ℕ) × Meaning a (with_place e x i)) → Holds (atom_or p ρ c) v ↔ ((i : ℕ) × Meaning a (with_place e x i))
-atom_or_says None a x ρ e c v q s h = h
-atom_or_says (Some k) a x ρ e c v q s h = atom_of_says x a k ρ e v q s
+-- there is a place of which the formula holds, whether that is a relation or not
+relation_or_says : (p : Option Relation) (a : Formula) (x : ℕ) (ρ : Numbering) (e : Env) (c : C) (v : Sets) → relation_of x a ≡ p → Stand v ρ e (without (OfPlace x) (names a)) →
+    Holds c v ↔ ((i : ℕ) × Meaning a (with_place e x i)) → Holds (relation_or p ρ c) v ↔ ((i : ℕ) × Meaning a (with_place e x i))
+relation_or_says None a x ρ e c v q s h = h
+relation_or_says (Some k) a x ρ e c v q s h = relation_of_says x a k ρ e v q s
 
 -- where the sets stand for the formula's names: the claim is the formula, that of its opposite the opposite
 says_as : (a : Formula) (b : Bool) (ρ : Numbering) (e : Env) (v : Sets) → Family v → Stand v ρ e (names a) → Holds (claim_as a b ρ) v ↔ Said b (Meaning a e)
-says_as True b ρ e v f s = signed_says b (within 0 0) v (λ h. tt, λ h i g. g)
+says_as True b ρ e v f s = signed_says b (within 0 0) v (λ h. tt, λ h. within_itself 0 v)
 says_as (Same p q) b ρ e v f s = signed_says b (claim (Same p q) ρ) v (same_says p q ρ e v f s)
 says_as (Less p q) b ρ e v f s = signed_says b (claim (Less p q) ρ) v (less_says p q ρ e v f s)
 says_as (In p g) b ρ e v f s = signed_says b (claim (In p g) ρ) v (in_says p g ρ e v f s)
 says_as (Sub g h) b ρ e v f s = let l = names_group g ++ names_group h in signed_says b (claim (Sub g h) ρ) v (within_says g h ρ e (fresh (numbers ρ l)) v f s (fresh_free (numbers ρ l)))
+says_as (Count g r) b ρ e v f s = signed_says b (claim (Count g r) ρ) v (counted_says g r ρ e v f s)
 says_as (Not' _ a) b ρ e v f s = iff_trans (says_as a (not b) ρ e v f s) (not_said b (dec_of (claim_as a true ρ) v f (says_as a true ρ e v f s)))
 says_as (And' _ a _ c) b ρ e v f s =
     signed_says b (and1 (claim_as a true ρ) (claim_as c true ρ)) v
@@ -97,7 +100,7 @@ says_as (Implies' _ a _ c) b ρ e v f s =
 says_as (Some1' x _ a) b ρ e v f s =
     let m = fresh (numbers ρ (without (OfPlace x) (names a))) in
     let c = claim_as a true (numbered ρ (OfPlace x) m) in
-    signed_says b (atom_or (atom_of x a) ρ (some_place (sure a true x) m c)) v (atom_or_says (atom_of x a) a x ρ e (some_place (sure a true x) m c) v refl s
+    signed_says b (relation_or (relation_of x a) ρ (some_place (sure a true x) m c)) v (relation_or_says (relation_of x a) a x ρ e (some_place (sure a true x) m c) v refl s
     (some_place_says (sure a true x) m c v (λ i. Meaning a (with_place e x i)) (bound_sure a true x m ρ) f (λ t i ft g o.
     says_as a true (numbered ρ (OfPlace x) m) (with_place e x i) t ft (stand_bind (OfPlace x) v t ρ e (with_place e x i) (names a) g (place_other x i t e) (place_here x i m t e o) s))))
 says_as (All1' x _ a) b ρ e v f s =

@@ -1,9 +1,12 @@
 pub mod NumbersLaws
+pub mod Opened
 pub mod Families
 pub mod Standing
 pub mod Connectives
 pub mod Terms
 pub mod Within
+pub mod HowMany
+pub mod Counted
 pub mod OnePlaceLaws
 pub mod Sureness
 pub mod Formulas

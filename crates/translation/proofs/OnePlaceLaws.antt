@@ -6,9 +6,9 @@ use Rattle.words.specs.Words.{Sets}
 use Rattle.claims.specs.Claims.{Holds, has}
 use Rattle.kinds.specs.Relations.{Only}
 use Rattle.claims.specs.Places.{one}
-use Rattle.claims.specs.Atoms.{first, second}
-use Rattle.claims.specs.declared.atom.Atom.{Atom}
-use Rattle.claims.specs.declared.atom.Atom.TheVariants.{Within, Single, Next, Before}
+use Rattle.kinds.specs.Relations.{first, second}
+use Rattle.kinds.specs.declared.relation.Relation.{Relation}
+use Rattle.kinds.specs.declared.relation.Relation.TheVariants.{Within, Single, Next, Before}
 use Rattle.formulas.specs.declared.name.Name.{Name}
 use Rattle.formulas.specs.declared.name.Name.TheVariants.{OfPlace, OfGroup}
 use Rattle.formulas.specs.declared.formula.Place.{Place}
@@ -21,8 +21,9 @@ use Rattle.formulas.specs.Meaning.{Env, with_place, value, members, Meaning}
 use Rattle.formulas.specs.Names.{names_group, names, without, Among}
 use Rattle.formulas.proofs.NamesLaws.{among_left, among_right, among_without}
 use Rattle.formulas.proofs.SetsLaws.{and_true, one_says}
-use Rattle.translation.specs.OnePlace.{is_named, is_at, is_only, name_of, no_other, has_place, agreed, first_of, point_of, single_of, two_of, next_of, is_less, points_of, ordered_of, before_of, atom_of, claim_of}
+use Rattle.translation.specs.OnePlace.{is_named, is_at, is_only, name_of, no_other, has_place, agreed, first_of, point_of, single_of, two_of, next_of, is_less, points_of, ordered_of, before_of, relation_of, claim_of}
 use Rattle.translation.specs.Numbers.{Numbering}
+use Rattle.translation.proofs.Opened.{within_holds, single_holds, next_holds, before_holds}
 use Rattle.translation.proofs.Standing.{Stand}
 
 pub equal : (x y : ℕ) → (x == y) ≡ true → x ≡ y
@@ -126,16 +127,16 @@ point_among b x (And' _ a _ c) y q = elim (first_some (agreed (no_other b x a) (
 ]
 point_among b x a y q = absurd (cc)
 
--- what the sets of those names are that an atom speaks of
-abbrev pub AtomSays : Atom → Env → Type 0
-AtomSays (Within y z) e = (i : ℕ) → has (e.groups y) i ≡ true → has (e.groups z) i ≡ true
-AtomSays (Single y) e = (i : ℕ) × IsPoint e y i
-AtomSays (Next y z) e = (i : ℕ) × IsPoint e y i × IsPoint e z (suc i)
-AtomSays (Before y z) e = (i : ℕ) × (j : ℕ) × IsPoint e y i × IsPoint e z j × (i < j)
+-- what the sets of those names are that a relation speaks of
+abbrev pub RelationSays : Relation → Env → Type 0
+RelationSays (Within y z) e = (i : ℕ) → has (e.groups y) i ≡ true → has (e.groups z) i ≡ true
+RelationSays (Single y) e = (i : ℕ) × IsPoint e y i
+RelationSays (Next y z) e = (i : ℕ) × IsPoint e y i × IsPoint e z (suc i)
+RelationSays (Before y z) e = (i : ℕ) × (j : ℕ) × IsPoint e y i × IsPoint e z j × (i < j)
 
 -- both of its sets are among the names
-abbrev pub AtomNames : Atom → List Name → Type 0
-AtomNames a l = Among (OfGroup (first a)) l × Among (OfGroup (second a)) l
+abbrev pub RelationNames : Relation → List Name → Type 0
+RelationNames a l = Among (OfGroup (first a)) l × Among (OfGroup (second a)) l
 
 place_now : (x i : ℕ) (e : Env) → (with_place e x i).places x ≡ i
 place_now x i e = elim (eqb_tells x x) [ inl q ↦ rw q.0 | inr q ↦ absurd (q.1 refl) ]
@@ -153,22 +154,22 @@ behind_there x a y i e q =
     let k = ap suc (place_now x i e) in
     (λ m. subst (IsPoint e y) k (r.0 m), λ m. r.1 (subst (IsPoint e y) (sym k) m))
 
-single_says : (x : ℕ) (a : Formula) (s : Atom) → single_of (point_of false x a) ≡ Some s → (y : ℕ) × (point_of false x a ≡ Some y) × (s ≡ Single y)
+single_says : (x : ℕ) (a : Formula) (s : Relation) → single_of (point_of false x a) ≡ Some s → (y : ℕ) × (point_of false x a ≡ Some y) × (s ≡ Single y)
 single_says x a s q = at (point_of false x a) refl q
   where
     at : (p : Option ℕ) → point_of false x a ≡ p → single_of p ≡ Some s → (y : ℕ) × (point_of false x a ≡ Some y) × (s ≡ Single y)
     at (Some y) e h = (y, e, cc)
     at None e h = absurd (cc)
 
-two_some : (f : ℕ → ℕ → Atom) (p q : Option ℕ) (s : Atom) → two_of f p q ≡ Some s → (y : ℕ) × (z : ℕ) × (p ≡ Some y) × (q ≡ Some z) × (s ≡ f y z)
+two_some : (f : ℕ → ℕ → Relation) (p q : Option ℕ) (s : Relation) → two_of f p q ≡ Some s → (y : ℕ) × (z : ℕ) × (p ≡ Some y) × (q ≡ Some z) × (s ≡ f y z)
 two_some f (Some y) (Some z) s h = (y, z, refl, refl, cc)
 two_some f (Some y) None s h = absurd (cc)
 two_some f None q s h = absurd (cc)
 
--- an atom that is found, and what a formula of which some place x is says
-record Found (x : ℕ) (a : Formula) (s : Atom) : Type 0 where
-  says : (e : Env) → ((i : ℕ) × Meaning a (with_place e x i)) ↔ AtomSays s e
-  names : AtomNames s (without (OfPlace x) (names a))
+-- a relation that is found, and what a formula of which some place x is says
+record Found (x : ℕ) (a : Formula) (s : Relation) : Type 0 where
+  says : (e : Env) → ((i : ℕ) × Meaning a (with_place e x i)) ↔ RelationSays s e
+  names : RelationNames s (without (OfPlace x) (names a))
 
 not_place : (y x : ℕ) → OfGroup y ≡ OfPlace x → ⊥
 not_place y x e = let z : ◌≡◌ {A = ℕ} 0 1 = cc in omega arith
@@ -176,13 +177,13 @@ not_place y x e = let z : ◌≡◌ {A = ℕ} 0 1 = cc in omega arith
 kept : (x : ℕ) (a : Formula) (y : ℕ) → Among (OfGroup y) (names a) → Among (OfGroup y) (without (OfPlace x) (names a))
 kept x a y h = among_without (OfPlace x) (OfGroup y) (names a) (not_place y x) h
 
-found_single : (x : ℕ) (a : Formula) (s : Atom) → single_of (point_of false x a) ≡ Some s → Found x a s
+found_single : (x : ℕ) (a : Formula) (s : Relation) → single_of (point_of false x a) ≡ Some s → Found x a s
 found_single x a s q =
     let (y, p, e') = single_says x a s q in
     let among = kept x a y (point_among false x a y p) in
     subst (Found x a) (sym e') (record { says = λ e. (λ m. (m.0, (there x a y m.0 e p).0 m.1), λ m. (m.0, (there x a y m.0 e p).1 m.1)); names = (among, among) })
 
-found_next : (x : ℕ) (a : Formula) (s : Atom) → next_of x a ≡ Some s → Found x a s
+found_next : (x : ℕ) (a : Formula) (s : Relation) → next_of x a ≡ Some s → Found x a s
 found_next x (And' ρ a σ c) s q =
     let (y, z, p, r, e') = two_some Next (point_of false x a) (point_of true x c) s q in
     subst (Found x (And' ρ a σ c)) (sym e') (record {
@@ -219,7 +220,7 @@ pair_says x y a c k l i j e d p q =
     )
 
 -- the two sets of x and y, and what is said of them
-record Pair (x y : ℕ) (a : Formula) (s : Atom) : Type 0 where
+record Pair (x y : ℕ) (a : Formula) (s : Relation) : Type 0 where
   k : ℕ
   l : ℕ
   is : s ≡ Before k l
@@ -227,7 +228,7 @@ record Pair (x y : ℕ) (a : Formula) (s : Atom) : Type 0 where
   k_among : Among (OfGroup k) (names a)
   l_among : Among (OfGroup l) (names a)
 
-pair_of : (x y : ℕ) (a : Formula) (s : Atom) → (x == y) ≡ false → points_of x y a ≡ Some s → Pair x y a s
+pair_of : (x y : ℕ) (a : Formula) (s : Relation) → (x == y) ≡ false → points_of x y a ≡ Some s → Pair x y a s
 pair_of x y (And' ρ a σ c) s d q =
     let (k', l', p, r, e') = two_some Before (point_of false x a) (point_of false y c) s q in
     record {
@@ -245,7 +246,7 @@ cond_none true p y q = absurd (cc)
 cond_none false p y q = (refl, q)
 
 -- the same of the pair and that x comes before y
-found_ordered : (x y : ℕ) (b : Formula) (s : Atom) → (x == y) ≡ false → ordered_of x y b ≡ Some s →
+found_ordered : (x y : ℕ) (b : Formula) (s : Relation) → (x == y) ≡ false → ordered_of x y b ≡ Some s →
     (k : ℕ) × (l : ℕ) × (s ≡ Before k l) × ((i j : ℕ) (e : Env) → Meaning b (with_place (with_place e x i) y j) ↔ (IsPoint e k i × IsPoint e l j × (i < j))) × Among (OfGroup k) (names b) × Among (OfGroup l) (names b)
 found_ordered x y (And' ρ a σ c) s d q =
     let r = cond_some (is_less x y c) (points_of x y a) s q in
@@ -259,7 +260,7 @@ found_ordered x y (And' ρ a σ c) s d q =
     (t.k, t.l, t.is, says, among_left (OfGroup t.k) (names a) (names c) t.k_among, among_left (OfGroup t.l) (names a) (names c) t.l_among)
 found_ordered x y a s d q = absurd (cc)
 
-found_before : (x : ℕ) (a : Formula) (s : Atom) → before_of x a ≡ Some s → Found x a s
+found_before : (x : ℕ) (a : Formula) (s : Relation) → before_of x a ≡ Some s → Found x a s
 found_before x (Some1' y ρ b) s q =
     let r = cond_none (x == y) (ordered_of x y b) s q in
     let (k, l, e', says', k_in, l_in) = found_ordered x y b s r.0 r.1 in
@@ -273,7 +274,7 @@ found_before x (Some1' y ρ b) s q =
     })
 found_before x a s q = absurd (cc)
 
-found : (x : ℕ) (a : Formula) (s : Atom) → atom_of x a ≡ Some s → Found x a s
+found : (x : ℕ) (a : Formula) (s : Relation) → relation_of x a ≡ Some s → Found x a s
 found x a s q = elim (first_some (single_of (point_of false x a)) (first_of (next_of x a) (before_of x a)) s q) [
   | inl p ↦ found_single x a s p
   | inr p ↦ elim (first_some (next_of x a) (before_of x a) s p) [ inl r ↦ found_next x a s r | inr r ↦ found_before x a s r ]
@@ -283,29 +284,33 @@ found x a s q = elim (first_some (single_of (point_of false x a)) (first_of (nex
 point_only : (v : Sets) (n : ℕ) (e : Env) (y i : ℕ) → ((j : ℕ) → v n j ≡ has (e.groups y) j) → Only v n i ↔ IsPoint e y i
 point_only v n e y i s = (λ o. (sym (s i) ∙ o.0, λ j g. o.1 j (s j ∙ g)), λ o. (s i ∙ o.0, λ j g. o.1 j (sym (s j) ∙ g)))
 
--- the claim of an atom says of the sets that stand for its names what the atom does
-atom_says : (a : Atom) (ρ : Numbering) (e : Env) (v : Sets) (l : List Name) → AtomNames a l → Stand v ρ e l → Holds (claim_of ρ a) v ↔ AtomSays a e
-atom_says (Within y z) ρ e v l n s =
+-- the claim of a relation says of the sets that stand for its names what the relation does
+relation_says : (a : Relation) (ρ : Numbering) (e : Env) (v : Sets) (l : List Name) → RelationNames a l → Stand v ρ e l → Holds (claim_of ρ a) v ↔ RelationSays a e
+relation_says (Within y z) ρ e v l n s =
     let p = s (OfGroup y) n.0 in let q = s (OfGroup z) n.1 in
-    (λ h i g. sym (q i) ∙ h i (p i ∙ g), λ h i g. q i ∙ h i (sym (p i) ∙ g))
-atom_says (Single y) ρ e v l n s =
+    let n = within_holds (ρ (OfGroup y)) (ρ (OfGroup z)) v in
+    (λ h i g. sym (q i) ∙ n.0 h i (p i ∙ g), λ h. n.1 (λ i g. q i ∙ h i (sym (p i) ∙ g)))
+relation_says (Single y) ρ e v l n s =
     let p = s (OfGroup y) n.0 in
     let at : (i : ℕ) → Only v (ρ (OfGroup y)) i ↔ IsPoint e y i = λ i. point_only v (ρ (OfGroup y)) e y i p in
-    (λ h. (h.0, (at h.0).0 h.1), λ h. (h.0, (at h.0).1 h.1))
-atom_says (Next y z) ρ e v l n s =
+    let n = single_holds (ρ (OfGroup y)) v in
+    (λ h. (let (i, o) = n.0 h in (i, (at i).0 o)), λ h. n.1 (h.0, (at h.0).1 h.1))
+relation_says (Next y z) ρ e v l n s =
     let first_at : (i : ℕ) → Only v (ρ (OfGroup y)) i ↔ IsPoint e y i = λ i. point_only v (ρ (OfGroup y)) e y i (s (OfGroup y) n.0) in
     let second_at : (i : ℕ) → Only v (ρ (OfGroup z)) i ↔ IsPoint e z i = λ i. point_only v (ρ (OfGroup z)) e z i (s (OfGroup z) n.1) in
-    (λ h. (let (i, p, q) = h in (i, (first_at i).0 p, (second_at (suc i)).0 q)), λ h. (let (i, p, q) = h in (i, (first_at i).1 p, (second_at (suc i)).1 q)))
-atom_says (Before y z) ρ e v l n s =
+    let n = next_holds (ρ (OfGroup y)) (ρ (OfGroup z)) v in
+    (λ h. (let (i, p, q) = n.0 h in (i, (first_at i).0 p, (second_at (suc i)).0 q)), λ h. (let (i, p, q) = h in n.1 (i, (first_at i).1 p, (second_at (suc i)).1 q)))
+relation_says (Before y z) ρ e v l n s =
     let first_at : (i : ℕ) → Only v (ρ (OfGroup y)) i ↔ IsPoint e y i = λ i. point_only v (ρ (OfGroup y)) e y i (s (OfGroup y) n.0) in
     let second_at : (i : ℕ) → Only v (ρ (OfGroup z)) i ↔ IsPoint e z i = λ i. point_only v (ρ (OfGroup z)) e z i (s (OfGroup z) n.1) in
-    (λ h. (let (i, j, p, q, g) = h in (i, j, (first_at i).0 p, (second_at j).0 q, g)), λ h. (let (i, j, p, q, g) = h in (i, j, (first_at i).1 p, (second_at j).1 q, g)))
+    let n = before_holds (ρ (OfGroup y)) (ρ (OfGroup z)) v in
+    (λ h. (let (i, j, p, q, g) = n.0 h in (i, j, (first_at i).0 p, (second_at j).0 q, g)), λ h. (let (i, j, p, q, g) = h in n.1 (i, j, (first_at i).1 p, (second_at j).1 q, g)))
 
--- that there is a place of which the formula holds, where it says just what an atom does
-pub atom_of_says : (x : ℕ) (a : Formula) (s : Atom) (ρ : Numbering) (e : Env) (v : Sets) → atom_of x a ≡ Some s → Stand v ρ e (without (OfPlace x) (names a)) →
+-- that there is a place of which the formula holds, where it says just what a relation does
+pub relation_of_says : (x : ℕ) (a : Formula) (s : Relation) (ρ : Numbering) (e : Env) (v : Sets) → relation_of x a ≡ Some s → Stand v ρ e (without (OfPlace x) (names a)) →
     Holds (claim_of ρ s) v ↔ ((i : ℕ) × Meaning a (with_place e x i))
-atom_of_says x a s ρ e v q st =
+relation_of_says x a s ρ e v q st =
     let f = found x a s q in
-    let h = atom_says s ρ e v (without (OfPlace x) (names a)) f.names st in
+    let h = relation_says s ρ e v (without (OfPlace x) (names a)) f.names st in
     let g = f.says e in
     (λ k. g.1 (h.0 k), λ k. h.1 (g.0 k))

@@ -12,6 +12,7 @@ use Rattle.formulas.proofs.SetsLaws.{lowest_says}
 use Rattle.translation.specs.Numbers.{Numbering}
 use Rattle.translation.specs.Translation.{sure, claim}
 use Rattle.translation.specs.Settles.{singles, Singles, env_of, Settles}
+use Rattle.translation.proofs.Opened.{single_holds}
 use Rattle.translation.proofs.Families.{Family}
 use Rattle.translation.proofs.Standing.{Stand}
 use Rattle.translation.proofs.Sureness.{name_apart, sure_says}
@@ -49,8 +50,8 @@ singles_says ρ a (OfPlace y ∷ l) c v f g = at (λ d k. singles_says ρ a l d 
         )
     at all_of false q =
         let r = all_of (and1 (single (ρ (OfPlace y))) c) (λ h. g h.1) in (
-          λ h. (let p = r.0 h in (all p.1.0 p.0, p.1.1)),
-          λ h. r.1 (λ x b. h.0 x (inr b), (h.0 y (inl refl), h.1)),
+          λ h. (let p = r.0 h in (all ((single_holds (ρ (OfPlace y)) v).0 p.1.0) p.0, p.1.1)),
+          λ h. r.1 (λ x b. h.0 x (inr b), ((single_holds (ρ (OfPlace y)) v).1 (h.0 y (inl refl)), h.1)),
         )
 singles_says ρ a (OfGroup y ∷ l) c v f g =
     let r = singles_says ρ a l c v f g in (

@@ -4,19 +4,19 @@ use mathlib.Core.Bool.{false≢true}
 use Rattle.std.specs.Prelude.{is_none}
 use Rattle.std.proofs.lemmas.Bool.Decides.{eqb_tells}
 use Rattle.claims.specs.Claims.{C, and1, before}
-use Rattle.claims.specs.declared.atom.Atom.{Atom}
+use Rattle.kinds.specs.declared.relation.Relation.{Relation}
 use Rattle.formulas.specs.declared.name.Name.{Name}
 use Rattle.formulas.specs.declared.name.Name.TheVariants.{OfPlace, OfGroup}
 use Rattle.formulas.specs.declared.formula.Place.{Place}
 use Rattle.formulas.specs.declared.formula.Place.TheVariants.{Named as place}
 use Rattle.formulas.specs.declared.formula.Formula.{Formula}
-use Rattle.formulas.specs.declared.formula.Formula.TheVariants.{True, Same, Less, In, Sub, Not', And', Or', Implies', Some1', All1', Some2', All2'}
+use Rattle.formulas.specs.declared.formula.Formula.TheVariants.{True, Same, Less, In, Sub, Count, Not', And', Or', Implies', Some1', All1', Some2', All2'}
 use Rattle.formulas.specs.Names.{names_place, names_group, names, without, Among}
 use Rattle.formulas.proofs.NamesLaws.{among_left, among_right, among_without}
 use Rattle.formulas.proofs.SetsLaws.{or_true, and_true}
 use Rattle.translation.specs.Numbers.{Numbering, numbered, numbers, fresh}
-use Rattle.translation.specs.OnePlace.{is_named, atom_of}
-use Rattle.translation.specs.Translation.{some_place, is_sure, is_sure_in, sure_same, sure, about, is_place, is_in, is_same, atom_or, claim_as}
+use Rattle.translation.specs.OnePlace.{is_named, relation_of}
+use Rattle.translation.specs.Translation.{some_place, is_sure, is_sure_in, sure_same, sure, about, is_place, is_in, is_same, relation_or, claim_as}
 use Rattle.translation.proofs.NumbersLaws.{among_number, fresh_free}
 use Rattle.translation.proofs.OnePlaceLaws.{equal, named_is}
 use Rattle.translation.proofs.Connectives.{Sure, sure_left, sure_right, some_sure, some_place_sure}
@@ -50,6 +50,7 @@ sure_among (Less s t) false x q = absurd (false≢true q)
 sure_among (In t s) true x q = among_left (OfPlace x) (names_place t) (names_group s) (named_among x t ((and_true (is_named x t) (is_sure_in s)).1 q).0)
 sure_among (In t s) false x q = absurd (false≢true q)
 sure_among (Sub s t) b x q = absurd (false≢true q)
+sure_among (Count s r) b x q = absurd (false≢true q)
 sure_among (Not' _ a) b x q = sure_among a (not b) x q
 sure_among (And' _ a _ c) true x q = elim ((or_true (sure a true x) (sure c true x)).1 q) [
   | inl r ↦ among_left (OfPlace x) (names a) (names c) (sure_among a true x r)
@@ -67,7 +68,7 @@ sure_among (Implies' _ a _ c) false x q = elim ((or_true (sure a true x) (sure c
   | inr r ↦ among_right (OfPlace x) (names a) (names c) (sure_among c false x r)
 ]
 sure_among (Some1' y _ a) true x q =
-    let p = (and_true (is_none (atom_of y a)) (not (x == y) && sure a true x)).1 q in
+    let p = (and_true (is_none (relation_of y a)) (not (x == y) && sure a true x)).1 q in
     let r = (and_true (not (x == y)) (sure a true x)).1 p.1 in
     among_without (OfPlace y) (OfPlace x) (names a) (unequal x y r.0).1 (sure_among a true x r.1)
 sure_among (Some1' y _ a) false x q = absurd (false≢true q)
@@ -122,9 +123,9 @@ beside x y m ρ c q u = rw (unequal x y q).0 at u
 here : (x m : ℕ) (ρ : Numbering) → numbered ρ (OfPlace x) m (OfPlace x) ≡ m
 here x m ρ = elim (eqb_tells x x) [ inl q ↦ rw q.0 | inr q ↦ absurd (q.1 refl) ]
 
-no_atom : (p : Option Atom) (ρ : Numbering) (c : C) (n : ℕ) → is_none p ≡ true → Sure n c → Sure n (atom_or p ρ c)
-no_atom None ρ c n q u = u
-no_atom (Some a) ρ c n q u = absurd (false≢true q)
+no_relation : (p : Option Relation) (ρ : Numbering) (c : C) (n : ℕ) → is_none p ≡ true → Sure n c → Sure n (relation_or p ρ c)
+no_relation None ρ c n q u = u
+no_relation (Some a) ρ c n q u = absurd (false≢true q)
 
 pub sure_says : (a : Formula) (b : Bool) (x : ℕ) (ρ : Numbering) → sure a b x ≡ true → Sure (ρ (OfPlace x)) (claim_as a b ρ)
 sure_says True b x ρ q = absurd (false≢true q)
@@ -143,6 +144,7 @@ sure_says (In t s) true x ρ q =
     about_named x t ρ m (is_place t ρ m) (is_sure_in s) (λ a. is_in s ρ a) r.0 (group_sure s ρ (ρ (OfPlace x)) r.1)
 sure_says (In t s) false x ρ q = absurd (false≢true q)
 sure_says (Sub s t) b x ρ q = absurd (false≢true q)
+sure_says (Count s r) b x ρ q = absurd (false≢true q)
 sure_says (Not' _ a) b x ρ q = sure_says a (not b) x ρ q
 sure_says (And' _ a _ c) true x ρ q = elim ((or_true (sure a true x) (sure c true x)).1 q) [
   | inl r ↦ sure_left (claim_as c true ρ) (sure_says a true x ρ r)
@@ -162,9 +164,9 @@ sure_says (Implies' _ a _ c) false x ρ q = elim ((or_true (sure a true x) (sure
 sure_says (Some1' y _ a) true x ρ q =
     let m = fresh (numbers ρ (without (OfPlace y) (names a))) in
     let c = some_place (sure a true y) m (claim_as a true (numbered ρ (OfPlace y) m)) in
-    let p = (and_true (is_none (atom_of y a)) (not (x == y) && sure a true x)).1 q in
+    let p = (and_true (is_none (relation_of y a)) (not (x == y) && sure a true x)).1 q in
     let r = (and_true (not (x == y)) (sure a true x)).1 p.1 in
-    no_atom (atom_of y a) ρ c (ρ (OfPlace x)) p.0 (some_place_sure (sure a true y) m (ρ (OfPlace x)) (claim_as a true (numbered ρ (OfPlace y) m))
+    no_relation (relation_of y a) ρ c (ρ (OfPlace x)) p.0 (some_place_sure (sure a true y) m (ρ (OfPlace x)) (claim_as a true (numbered ρ (OfPlace y) m))
     (bound_apart (OfPlace y) a ρ x (unequal x y r.0).1 (sure_among a true x r.1)) (beside x y m ρ (claim_as a true (numbered ρ (OfPlace y) m)) r.0 (sure_says a true x (numbered ρ (OfPlace y) m) r.1)))
 sure_says (Some1' y _ a) false x ρ q = absurd (false≢true q)
 sure_says (All1' y _ a) true x ρ q = absurd (false≢true q)

@@ -18,6 +18,7 @@ use Rattle.formulas.proofs.SetsLaws.{mix_has, or_true, and_true, but_true, one_s
 use Rattle.translation.specs.Numbers.{Numbering, numbers, fresh}
 use Rattle.translation.specs.Translation.{or1, some_place, lies, is_first, is_before, is_end, is_sure, is_sure_in, about, behind, is_place, is_in}
 use Rattle.translation.proofs.NumbersLaws.{fresh_free}
+use Rattle.translation.proofs.Opened.{single_holds, next_holds, before_holds, within_itself}
 use Rattle.translation.proofs.Families.{Family, Agree, family_put, holds_or_not, put_agree, only_agree}
 use Rattle.translation.proofs.Standing.{Stand, stand_left, stand_right, stand_agree}
 use Rattle.translation.proofs.Connectives.{next_says, before_says, lies_says, at_says, iff_trans, iff_not, iff_and, or_says, Sure, sure_left, sure_right, some_place_says, some_sure, first_says}
@@ -56,7 +57,7 @@ behind_other k m c n i v f d o h = (λ s. to s.0 s.1.0 s.1.1, from)
   where
     to : (u : List Bool) → Holds c (put v m u) → Holds (next m n) (put v m u) → suc k ≡ i
     to u hc hn =
-        let (j, p, q) = hn in
+        let (j, p, q) = (next_holds m n (put v m u)).0 hn in
         let x = (h (put v m u) j (family_put v m u f) (put_agree v m u) p).0 hc in
         let y = o.1 (suc j) (sym (put_agree v m u n d (suc j)) ∙ q.0) in
         omega arith
@@ -66,7 +67,7 @@ behind_other k m c n i v f d o h = (λ s. to s.0 s.1.0 s.1.1, from)
       one k,
       (
         (h (put v m (one k)) k (family_put v m (one k) f) (put_agree v m (one k)) (only_one v m k)).1 refl,
-        (k, only_one v m k, subst (Only (put v m (one k)) n) (sym e) (only_agree m n i v (put v m (one k)) (put_agree v m (one k)) d o)),
+        (next_holds m n (put v m (one k))).1 (k, only_one v m k, subst (Only (put v m (one k)) n) (sym e) (only_agree m n i v (put v m (one k)) (put_agree v m (one k)) d o)),
       ),
     )
 
@@ -81,10 +82,10 @@ behind_says (Most' _ p) ρ e m c n i v f d o s h = behind_other (highest (member
 
 -- which claims are sure
 next_second : (a b : ℕ) → Sure b (next a b)
-next_second a b = record { place = λ t f h. (suc h.0, h.2) }
+next_second a b = record { place = λ t f h. (let (i, p, q) = (next_holds a b t).0 h in (suc i, q)) }
 
 pub lies_sure : (n b : ℕ) → Sure n (lies n b)
-lies_sure n b = record { place = λ t f h. h.0 }
+lies_sure n b = record { place = λ t f h. (single_holds n t).0 h.0 }
 
 behind_sure : (p : Place) (ρ : Numbering) (k : ℕ) (c : C) (m : ℕ) → (m ≡ k → ⊥) → Sure m (behind ρ p k c m)
 behind_sure (place x) ρ k c m d = next_second (ρ (OfPlace x)) m
@@ -100,17 +101,17 @@ or_sure n c d u w = record { place = λ t f h. elim (holds_or_not c t f) [ yes p
 
 pub group_sure : (g : Group) (ρ : Numbering) (m : ℕ) → is_sure_in g ≡ true → Sure m (is_in g ρ m)
 group_sure (group x) ρ m q = lies_sure m (ρ (OfGroup x))
-group_sure Empty ρ m q = record { place = λ t f h. absurd (h (λ j g. g)) }
+group_sure Empty ρ m q = record { place = λ t f h. absurd (h (within_itself m t)) }
 group_sure (Only' _ p) ρ m q = place_sure p ρ m q
 group_sure (Union' _ g _ h) ρ m q = let r = (and_true (is_sure_in g) (is_sure_in h)).1 q in or_sure m (is_in g ρ m) (is_in h ρ m) (group_sure g ρ m r.0) (group_sure h ρ m r.1)
 group_sure (Inter' _ g _ h) ρ m q = elim ((or_true (is_sure_in g) (is_sure_in h)).1 q) [ inl r ↦ sure_left (is_in h ρ m) (group_sure g ρ m r) | inr r ↦ sure_right (is_in g ρ m) (group_sure h ρ m r) ]
 group_sure (Minus' _ g _ h) ρ m q = sure_left (not1 (is_in h ρ m)) (group_sure g ρ m q)
 
 pub before_first : (a b : ℕ) → Sure a (before a b)
-before_first a b = record { place = λ t f h. (let (i, j, p, q, l) = h in (i, p)) }
+before_first a b = record { place = λ t f h. (let (i, j, p, q, l) = (before_holds a b t).0 h in (i, p)) }
 
 pub before_second : (a b : ℕ) → Sure b (before a b)
-before_second a b = record { place = λ t f h. (let (i, j, p, q, l) = h in (j, q)) }
+before_second a b = record { place = λ t f h. (let (i, j, p, q, l) = (before_holds a b t).0 h in (j, q)) }
 
 -- both ends of a set in the same way
 extreme_says : (s : C) (w : Bool) (b s' : C) (n m i : ℕ) (v : Sets) (R : ℕ → ℕ → Type 0) (u : List Bool) → (w ≡ true → Sure m s') → Sure m b → Family v → (n ≡ m → ⊥) → Only v n i → Holds s v ↔ (has u i ≡ true) →
@@ -160,7 +161,7 @@ mutual
 
   pub group_says : (g : Group) (ρ : Numbering) (e : Env) (n i : ℕ) (v : Sets) → Family v → Stand v ρ e (names_group g) → Only v n i → Holds (is_in g ρ n) v ↔ (has (members g e) i ≡ true)
   group_says (group x) ρ e n i v f s o = let q = s (OfGroup x) (inl refl) i in iff_trans (lies_says v n (ρ (OfGroup x)) i o) (λ h. sym q ∙ h, λ h. q ∙ h)
-  group_says Empty ρ e n i v f s o = (λ h. absurd (h (λ j g. g)), λ h. absurd (false≢true h))
+  group_says Empty ρ e n i v f s o = (λ h. absurd (h (within_itself n v)), λ h. absurd (false≢true h))
   group_says (Only' _ p) ρ e n i v f s o = iff_trans (place_says p ρ e n i v f s o) (one_says (value p e) i)
   group_says (Union' _ g _ h) ρ e n i v f s o =
       let z = mix_has (λ a b. a || b) (members g e) (members h e) i refl in

@@ -20,23 +20,24 @@ use Rattle.formulas.proofs.SetsLaws.{true_stable, mix_has, or_true, and_true, on
 use Rattle.translation.specs.Numbers.{Numbering, numbers}
 use Rattle.translation.specs.Translation.{lies, is_sure_in, is_in, each_in, set_within, is_within}
 use Rattle.translation.proofs.NumbersLaws.{among_part}
+use Rattle.translation.proofs.Opened.{within_holds, within_itself}
 use Rattle.translation.proofs.Families.{Family, Agree, put_agree}
 use Rattle.translation.proofs.Standing.{Stand, stand_left, stand_right, stand_agree}
 use Rattle.translation.proofs.Connectives.{at_says, lies_says, iff_trans, iff_not, iff_and, Sure, sure_left, some_place_says}
 use Rattle.translation.proofs.Terms.{lies_sure, group_sure, group_says}
 
 -- set n is the set u
-abbrev IsSet : Sets → ℕ → List Bool → Type 0
+abbrev pub IsSet : Sets → ℕ → List Bool → Type 0
 IsSet v n u = (i : ℕ) → (v n i ≡ true) ↔ (has u i ≡ true)
 
-named_set : (v : Sets) (n : ℕ) (u : List Bool) → ((i : ℕ) → v n i ≡ has u i) → IsSet v n u
+pub named_set : (v : Sets) (n : ℕ) (u : List Bool) → ((i : ℕ) → v n i ≡ has u i) → IsSet v n u
 named_set v n u s i = (λ h. sym (s i) ∙ h, λ h. s i ∙ h)
 
 named_place : (v : Sets) (n i : ℕ) → Only v n i → IsSet v n (one i)
 named_place v n i o j = iff_trans (at_says v n j i o) (one_says i j)
 
 within_sets : (v : Sets) (n k : ℕ) (u w : List Bool) → IsSet v n u → IsSet v k w → Holds (within n k) v ↔ ((i : ℕ) → has u i ≡ true → has w i ≡ true)
-within_sets v n k u w p q = (λ h i g. (q i).0 (h i ((p i).1 g)), λ h i g. (q i).1 (h i ((p i).0 g)))
+within_sets v n k u w p q = let l = within_holds n k v in (λ h i g. (q i).0 (l.0 h i ((p i).1 g)), λ h. l.1 (λ i g. (q i).1 (h i ((p i).0 g))))
 
 first_of : (k l n : List Name) (y : Name) → Among y (k ++ n) → Among y ((k ++ l) ++ n)
 first_of k l n y h = elim (among_either y k n h) [ inl g ↦ among_left y (k ++ l) n (among_left y k l g) | inr g ↦ among_right y (k ++ l) n g ]
@@ -45,7 +46,7 @@ second_of : (k l n : List Name) (y : Name) → Among y (l ++ n) → Among y ((k 
 second_of k l n y h = elim (among_either y l n h) [ inl g ↦ among_left y (k ++ l) n (among_right y k l g) | inr g ↦ among_right y (k ++ l) n g ]
 
 -- m is none of the numbers of h; the claim c says of a place, as set m, that it is in the set u
-each_says : (b : Bool) (c : C) (u : List Bool) (h : Group) (ρ : Numbering) (e : Env) (m : ℕ) (v : Sets) → (b ≡ true → Sure m c) → Family v → Stand v ρ e (names_group h) → (Among m (numbers ρ (names_group h)) → ⊥) →
+pub each_says : (b : Bool) (c : C) (u : List Bool) (h : Group) (ρ : Numbering) (e : Env) (m : ℕ) (v : Sets) → (b ≡ true → Sure m c) → Family v → Stand v ρ e (names_group h) → (Among m (numbers ρ (names_group h)) → ⊥) →
     ((t : Sets) (i : ℕ) → Family t → Agree m v t → Only t m i → Holds c t ↔ (has u i ≡ true)) →
     Holds (each_in ρ b c h m) v ↔ ((i : ℕ) → has u i ≡ true → has (members h e) i ≡ true)
 each_says b c u h ρ e m v sure f s d k =
@@ -69,13 +70,13 @@ union_within u w z =
     )
 
 -- set n is the set u, and m is neither n nor one of the numbers of t
-set_says : (n : ℕ) (u : List Bool) (t : Group) (ρ : Numbering) (e : Env) (m : ℕ) (v : Sets) → Family v → IsSet v n u → (n ≡ m → ⊥) → Stand v ρ e (names_group t) → (Among m (numbers ρ (names_group t)) → ⊥) →
+pub set_says : (n : ℕ) (u : List Bool) (t : Group) (ρ : Numbering) (e : Env) (m : ℕ) (v : Sets) → Family v → IsSet v n u → (n ≡ m → ⊥) → Stand v ρ e (names_group t) → (Among m (numbers ρ (names_group t)) → ⊥) →
     Holds (set_within ρ n t m) v ↔ ((i : ℕ) → has u i ≡ true → has (members t e) i ≡ true)
 set_says n u (group y) ρ e m v f p r s d = within_sets v n (ρ (OfGroup y)) u (e.groups y) p (named_set v (ρ (OfGroup y)) (e.groups y) (s (OfGroup y) (inl refl)))
 set_says n u Empty ρ e m v f p r s d =
     let on : (w : List Bool) (i : ℕ) → put v m w n i ≡ v n i = λ w i. put_agree v m w n r i in (
-      λ k i g. absurd (k ([], λ w. false≢true (sym (put_same v m [] i) ∙ w i (on [] i ∙ (p i).1 g)))),
-      λ k z. z.1 (λ i g. absurd (false≢true (k i ((p i).0 (sym (on z.0 i) ∙ g))))),
+      λ k i g. absurd (k ([], λ w. false≢true (sym (put_same v m [] i) ∙ (within_holds n m (put v m [])).0 w i (on [] i ∙ (p i).1 g)))),
+      λ k z. z.1 ((within_holds n m (put v m z.0)).1 (λ i g. absurd (false≢true (k i ((p i).0 (sym (on z.0 i) ∙ g)))))),
     )
 set_says n u (Only' _ (place y)) ρ e m v f p r s d = within_sets v n (ρ (OfPlace y)) u (one (e.places y)) p (named_place v (ρ (OfPlace y)) (e.places y) (s (OfPlace y) (inl refl)))
 set_says n u (Inter' _ g _ h) ρ e m v f p r s d =
@@ -93,7 +94,7 @@ pub within_says : (g h : Group) (ρ : Numbering) (e : Env) (m : ℕ) (v : Sets) 
     Holds (is_within ρ g h m) v ↔ Meaning (Sub g h) e
 within_says (group x) h ρ e m v f s d =
     set_says (ρ (OfGroup x)) (e.groups x) h ρ e m v f (named_set v (ρ (OfGroup x)) (e.groups x) (s (OfGroup x) (inl refl))) (λ q. d (inl (sym q))) (λ y a. s y (inr a)) (λ a. d (inr a))
-within_says Empty h ρ e m v f s d = (λ k i g. absurd (false≢true g), λ k i g. g)
+within_says Empty h ρ e m v f s d = (λ k i g. absurd (false≢true g), λ k. within_itself 0 v)
 within_says (Only' _ (place x)) h ρ e m v f s d =
     set_says (ρ (OfPlace x)) (one (e.places x)) h ρ e m v f (named_place v (ρ (OfPlace x)) (e.places x) (s (OfPlace x) (inl refl))) (λ q. d (inl (sym q))) (λ y a. s y (inr a)) (λ a. d (inr a))
 within_says (Union' _ g _ r) h ρ e m v f s d =

@@ -1,9 +1,9 @@
--- Formulas that say in places what a claim without parts says of sets: that a set has one place, X = {x}; that two sets have one place each and one comes just behind
+-- Formulas that say in places what a relation says of sets: that a set has one place, X = {x}; that two sets have one place each and one comes just behind
 -- the other, X = {x} & Y = {x + 1}; or further on, X = {x} & Y = {y} & x < y. Of X = {x} the two inclusions are said, in either order, or x in X in place of the one.
 use Rattle.std.specs.Prelude.{ℕ, Bool, true, false, cond, ◌&&◌, Option, Some, None, ◌==◌}
 use Rattle.claims.specs.Claims.{C, within, single, next, before}
-use Rattle.claims.specs.declared.atom.Atom.{Atom}
-use Rattle.claims.specs.declared.atom.Atom.TheVariants.{Within, Single, Next, Before}
+use Rattle.kinds.specs.declared.relation.Relation.{Relation}
+use Rattle.kinds.specs.declared.relation.Relation.TheVariants.{Within, Single, Next, Before}
 use Rattle.formulas.specs.declared.name.Name.TheVariants.{OfGroup}
 use Rattle.formulas.specs.declared.formula.Place.{Place}
 use Rattle.formulas.specs.declared.formula.Group.{Group}
@@ -63,16 +63,16 @@ point_of behind x (And' _ a _ c) = first_of (agreed (no_other behind x a) (has_p
 point_of behind x a = None
 
 -- of sets by their names: that one has a place, that two have places one behind the other, or before it
-abbrev pub single_of : Option ℕ → Option Atom
+abbrev pub single_of : Option ℕ → Option Relation
 single_of (Some y) = Some (Single y)
 single_of None = None
 
-abbrev pub two_of : (ℕ → ℕ → Atom) → Option ℕ → Option ℕ → Option Atom
+abbrev pub two_of : (ℕ → ℕ → Relation) → Option ℕ → Option ℕ → Option Relation
 two_of f (Some y) (Some z) = Some (f y z)
 two_of f p q = None
 
 -- the two sets whose one places x and the place behind it are
-abbrev pub next_of : ℕ → Formula → Option Atom
+abbrev pub next_of : ℕ → Formula → Option Relation
 next_of x (And' _ a _ c) = two_of Next (point_of false x a) (point_of true x c)
 next_of x a = None
 
@@ -82,25 +82,25 @@ is_less x y (Less s t) = is_named x s && is_named y t
 is_less x y a = false
 
 -- the two sets whose one places x and y are
-abbrev pub points_of : ℕ → ℕ → Formula → Option Atom
+abbrev pub points_of : ℕ → ℕ → Formula → Option Relation
 points_of x y (And' _ a _ c) = two_of Before (point_of false x a) (point_of false y c)
 points_of x y a = None
 
 -- and x comes before y
-abbrev pub ordered_of : ℕ → ℕ → Formula → Option Atom
+abbrev pub ordered_of : ℕ → ℕ → Formula → Option Relation
 ordered_of x y (And' _ a _ c) = cond (is_less x y c) (points_of x y a) None
 ordered_of x y a = None
 
-abbrev pub before_of : ℕ → Formula → Option Atom
+abbrev pub before_of : ℕ → Formula → Option Relation
 before_of x (Some1' y _ a) = cond (x == y) None (ordered_of x y a)
 before_of x a = None
 
 -- what is said of sets by that there is a place x of which the formula holds, if it is just that
-abbrev pub atom_of : ℕ → Formula → Option Atom
-atom_of x a = first_of (single_of (point_of false x a)) (first_of (next_of x a) (before_of x a))
+abbrev pub relation_of : ℕ → Formula → Option Relation
+relation_of x a = first_of (single_of (point_of false x a)) (first_of (next_of x a) (before_of x a))
 
--- the claim of it
-abbrev pub claim_of : Numbering → Atom → C
+-- the claim of the relation
+abbrev pub claim_of : Numbering → Relation → C
 claim_of ρ (Within y z) = within (ρ (OfGroup y)) (ρ (OfGroup z))
 claim_of ρ (Single y) = single (ρ (OfGroup y))
 claim_of ρ (Next y z) = next (ρ (OfGroup y)) (ρ (OfGroup z))

@@ -1,18 +1,19 @@
 -- The claim that is made of a formula. A place is the set of it alone. A name that a quantifier binds gets the lowest number that no set has which its part speaks of.
 -- Two things are not said twice: that a set is a place where what is claimed of it says so already (is_sure, is_sure_in, sure), and the opposite of an opposite (claim_as).
 use Rattle.std.specs.Prelude.{ℕ, Bool, true, false, not, ◌&&◌, ◌||◌, Option, Some, None, is_none, [], ◌∷◌, ◌++◌, ◌==◌}
-use Rattle.claims.specs.Claims.{C, within, single, next, before, not1, and1, some}
-use Rattle.claims.specs.declared.atom.Atom.{Atom}
+use Rattle.claims.specs.Claims.{C, within, single, next, before, multiple, not1, and1, some}
+use Rattle.kinds.specs.declared.multiple.Remainder.{Remainder}
+use Rattle.kinds.specs.declared.relation.Relation.{Relation}
 use Rattle.formulas.specs.declared.name.Name.TheVariants.{OfPlace, OfGroup}
 use Rattle.formulas.specs.declared.formula.Place.{Place}
 use Rattle.formulas.specs.declared.formula.Group.{Group}
 use Rattle.formulas.specs.declared.formula.Formula.{Formula}
 use Rattle.formulas.specs.declared.formula.Place.TheVariants.{Named as place, First, Succ', Prev', Least', Most'}
 use Rattle.formulas.specs.declared.formula.Group.TheVariants.{Named as group, Empty, Only', Union', Inter', Minus'}
-use Rattle.formulas.specs.declared.formula.Formula.TheVariants.{True, Same, Less, In, Sub, Not', And', Or', Implies', Some1', All1', Some2', All2'}
+use Rattle.formulas.specs.declared.formula.Formula.TheVariants.{True, Same, Less, In, Sub, Count, Not', And', Or', Implies', Some1', All1', Some2', All2'}
 use Rattle.formulas.specs.Names.{names_place, names_group, names, without}
 use Rattle.translation.specs.Numbers.{Numbering, numbered, numbers, fresh}
-use Rattle.translation.specs.OnePlace.{is_named, atom_of, claim_of}
+use Rattle.translation.specs.OnePlace.{is_named, relation_of, claim_of}
 
 -- a claim, or its opposite
 abbrev pub signed : Bool → C → C
@@ -123,6 +124,19 @@ is_within ρ (Only' _ (place x)) t m = set_within ρ (ρ (OfPlace x)) t m
 is_within ρ (Union' _ r _ s) t m = and1 (is_within ρ r t m) (is_within ρ s t m)
 is_within ρ s t m = each_in ρ (is_sure_in s) (is_in s ρ m) t m
 
+-- and every place of s, tried as set m, is one of set n
+abbrev pub within_set : Numbering → Group → ℕ → ℕ → C
+within_set ρ s n m = not1 (some_place (is_sure_in s) m (and1 (is_in s ρ m) (not1 (lies m n))))
+
+-- set m, which has the places of s, tried as set n, and no others, has as many as the remainder says
+abbrev pub set_counted : Numbering → Group → Remainder → ℕ → ℕ → C
+set_counted ρ s r m n = and1 (set_within ρ m s n) (and1 (within_set ρ s m n) (multiple (record { remainder = r; set = m })))
+
+-- s has as many: it is said of its own set if it has a name, else of a set m
+abbrev pub is_counted : Numbering → Group → Remainder → ℕ → ℕ → C
+is_counted ρ (group x) r m n = multiple (record { remainder = r; set = ρ (OfGroup x) })
+is_counted ρ s r m n = some m (set_counted ρ s r m n)
+
 -- whether the claim that both are the same place, above, is sure of the set of the place x: the place that has a name, the first if both have, is said to be the other
 abbrev pub sure_same : ℕ → Place → Place → Bool
 sure_same x (place y) t = y == x && is_sure t
@@ -135,19 +149,20 @@ sure (Same s t) b x = b && sure_same x s t
 sure (Less s t) b x = b && (is_named x s || is_named x t)
 sure (In t s) b x = b && (is_named x t && is_sure_in s)
 sure (Sub s t) b x = false
+sure (Count s r) b x = false
 sure (Not' _ a) b x = sure a (not b) x
 sure (And' _ a _ c) b x = b && (sure a true x || sure c true x)
 sure (Or' _ a _ c) b x = not b && (sure a false x || sure c false x)
 sure (Implies' _ a _ c) b x = not b && (sure a true x || sure c false x)
-sure (Some1' y _ a) b x = b && (is_none (atom_of y a) && (not (x == y) && sure a true x))
+sure (Some1' y _ a) b x = b && (is_none (relation_of y a) && (not (x == y) && sure a true x))
 sure (All1' y _ a) b x = not b && (not (x == y) && sure a false x)
 sure (Some2' y _ a) b x = b && sure a true x
 sure (All2' y _ a) b x = not b && sure a false x
 
--- the claim of the atom, if there is one, else c
-abbrev pub atom_or : Option Atom → Numbering → C → C
-atom_or (Some a) ρ c = claim_of ρ a
-atom_or None ρ c = c
+-- the claim of the relation, if there is one, else c
+abbrev pub relation_or : Option Relation → Numbering → C → C
+relation_or (Some a) ρ c = claim_of ρ a
+relation_or None ρ c = c
 
 -- the claim of the formula, if b is true, or of its opposite
 abbrev pub claim_as : Formula → Bool → Numbering → C
@@ -162,13 +177,17 @@ claim_as (In t s) b ρ =
     let m = fresh (numbers ρ (names_place t ++ names_group s)) in
     signed b (about ρ t m (is_place t ρ m) (is_sure_in s) (λ a. is_in s ρ a))
 claim_as (Sub s t) b ρ = signed b (is_within ρ s t (fresh (numbers ρ (names_group s ++ names_group t))))
+claim_as (Count s r) b ρ =
+    let l = numbers ρ (names_group s) in
+    let m = fresh l in
+    signed b (is_counted ρ s r m (fresh (m ∷ l)))
 claim_as (Not' _ a) b ρ = claim_as a (not b) ρ
 claim_as (And' _ a _ c) b ρ = signed b (and1 (claim_as a true ρ) (claim_as c true ρ))
 claim_as (Or' _ a _ c) b ρ = signed (not b) (and1 (claim_as a false ρ) (claim_as c false ρ))
 claim_as (Implies' _ a _ c) b ρ = signed (not b) (and1 (claim_as a true ρ) (claim_as c false ρ))
 claim_as (Some1' x _ a) b ρ =
     let m = fresh (numbers ρ (without (OfPlace x) (names a))) in
-    signed b (atom_or (atom_of x a) ρ (some_place (sure a true x) m (claim_as a true (numbered ρ (OfPlace x) m))))
+    signed b (relation_or (relation_of x a) ρ (some_place (sure a true x) m (claim_as a true (numbered ρ (OfPlace x) m))))
 claim_as (All1' x _ a) b ρ =
     let m = fresh (numbers ρ (without (OfPlace x) (names a))) in
     signed (not b) (some_place (sure a false x) m (claim_as a false (numbered ρ (OfPlace x) m)))

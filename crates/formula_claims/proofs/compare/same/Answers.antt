@@ -5,7 +5,7 @@ use Rattle.translation.specs.Numbers.{numbers, fresh}
 use Rattle.translation.specs.Translation.{is_sure, is_place}
 use Rattle.formula_claims.specs.Scope.{number_of}
 use Rattle.formula_claims.proofs.PointsLaws.{about_set_is}
-use Rattle.formula_claims.proofs.translate.same.Goals as goal
+use Rattle.formula_claims.proofs.compare.same.Goals as goal
 
 pub returns : goal.returns
 returns c =

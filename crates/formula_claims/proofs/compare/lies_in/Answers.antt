@@ -5,7 +5,7 @@ use Rattle.translation.specs.Numbers.{numbers, fresh}
 use Rattle.translation.specs.Translation.{is_sure_in, is_place, is_in}
 use Rattle.formula_claims.specs.Scope.{number_of}
 use Rattle.formula_claims.proofs.PointsLaws.{about_set_is}
-use Rattle.formula_claims.proofs.translate.lies_in.Goals as goal
+use Rattle.formula_claims.proofs.compare.lies_in.Goals as goal
 
 pub returns : goal.returns
 returns c =

@@ -7,7 +7,7 @@ use Rattle.translation.specs.Translation.{about, is_place}
 use Rattle.formula_claims.specs.Scope.{number_of}
 use Rattle.formula_claims.specs.Points.{set_of}
 use Rattle.formula_claims.proofs.PointsLaws.{about_set_is}
-use Rattle.formula_claims.proofs.translate.less.Goals as goal
+use Rattle.formula_claims.proofs.compare.less.Goals as goal
 
 pub returns : goal.returns
 returns c =
