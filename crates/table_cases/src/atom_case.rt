@@ -1,24 +1,26 @@
 // The table of a claim without parts, and its dead class.
 ghost use Rattle.std.specs.Prelude.{◌≤◌};
+ghost use Rattle.kinds.specs.Atoms.{sets_of};
 
 use crate::listing::Listing;
 use atoms::atom_table::atom_table;
-use claims::atom::Atom;
+use kinds::atom::Atom;
 use live::dead::dead;
 use std::io;
 use tables::sheet::{Shape, Sheet};
 
-// The claim that set 0 has exactly one place, which is C, with at most `most` classes.
-pub fn atom_case(rt: &HostRuntime, most: usize) -> io::Result<()>
-    requires { most ≤ 8 }
+// A claim about set 0 alone, with at most `most` classes.
+pub fn atom_case(rt: &HostRuntime, atom: Atom, most: usize) -> io::Result<()>
+    requires sets { sets_of atom ≤ 1 }
+    requires few { most ≤ 8 }
 {
-    let (mut rows, mut accept, mut scratch) = ([7u32; 64], [7u32; 64], [7u32; 192]);
+    let (mut rows, mut accept, mut scratch) = ([7u32; 64], [7u32; 64], [7u32; 384]);
     let mut sheet = Sheet {
         rows: &mut rows,
         accept: &mut accept,
         shape: Shape::new(most, 1),
     };
-    let Some(classes) = atom_table(Atom::Single(0), &mut scratch, &mut sheet) else {
+    let Some(classes) = atom_table(atom, &mut scratch, &mut sheet) else {
         return println!(rt; "leaf, at most {most}: more");
     };
     let dead = dead(sheet.table(classes));

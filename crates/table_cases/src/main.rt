@@ -20,6 +20,9 @@ use checked::is_table;
 use combined::{complement_case, product_case};
 use found::steps_case;
 use joined::join_case;
+use kinds::atom::Atom;
+use kinds::multiple::{Multiple, Remainder};
+use kinds::relation::Relation;
 use projected::{beyond_case, subsets_case};
 use std::io;
 
@@ -62,6 +65,21 @@ fn steps_cases(rt: &HostRuntime) -> io::Result<()> {
     steps_case(rt, &[0, 0], &[1], 1)
 }
 
+// That set 0 has exactly one place, which is C, and that it has a multiple of three places and one
+// besides.
+fn atom_cases(rt: &HostRuntime) -> anyhow::Result<()> {
+    let single = Atom::Related(Relation::Single(0));
+    atom_case(rt, single, 4)?;
+    atom_case(rt, single, 2)?;
+    let Some(remainder) = Remainder::new(3, 1) else {
+        unreachable()
+    };
+    let multiple = Atom::Counted(Multiple { remainder, set: 0 });
+    atom_case(rt, multiple, 3)?;
+    atom_case(rt, multiple, 2)?;
+    Ok(())
+}
+
 fn run(rt: &HostRuntime) -> anyhow::Result<()> {
     refused_case(rt)?;
     complement_case(rt)?;
@@ -70,9 +88,7 @@ fn run(rt: &HostRuntime) -> anyhow::Result<()> {
     project_cases(rt)?;
     join_case(rt)?;
     steps_cases(rt)?;
-    atom_case(rt, 4)?;
-    atom_case(rt, 2)?;
-    Ok(())
+    atom_cases(rt)
 }
 
 fn main(rt: HostRuntime) -> anyhow::Result<()> {
