@@ -26,6 +26,7 @@ fn after(q: u8, x: bool, y: bool) -> u8 {
 /// The states that are reached, numbered as they are found.
 pub(super) fn explore(atom: &Part, sets: u32) -> Table {
     let (start, x, y) = match *atom {
+        Part::Multiple(modulus, rest, x) => return count(modulus, rest, x, sets),
         Part::Within(x, y) => (0, x, y),
         Part::Single(x) => (1, x, x),
         Part::Next(x, y) => (2, x, y),
@@ -49,4 +50,11 @@ pub(super) fn explore(atom: &Part, sets: u32) -> Table {
     }
     let accept = states.iter().map(|state| matches!(state, 0 | 6 | 7)).collect();
     Table { rows, accept, width }
+}
+
+/// A state for each number of places, counted round by `modulus`.
+fn count(modulus: u8, rest: u8, x: u8, sets: u32) -> Table {
+    let (modulus, width) = (u32::from(modulus), 1 << sets);
+    let rows = (0..modulus).flat_map(|state| (0..width).map(move |column| (state + (column >> x & 1)) % modulus)).collect();
+    Table { rows, accept: (0..modulus).map(|state| state == u32::from(rest)).collect(), width: width as usize }
 }

@@ -11,7 +11,7 @@
 
 use std::collections::{BTreeSet, HashMap, HashSet};
 
-use super::reach::free_sets;
+use super::reach::{ALL_SETS, free_sets, period};
 use super::table::{Table, Tracks};
 use crate::part::Part;
 
@@ -92,7 +92,8 @@ fn count_within(c: &Part, tracks: &Tracks, p: usize, budget: u64) -> Option<Coun
         _ => count_together(tracks, &seen, p, q),
     };
     let classes = count(p, p);
-    Some(Count { classes, stable: count(p - 1, p) == classes && count(p, p - 1) == classes })
+    let less = period(c, ALL_SETS) as usize;
+    Some(Count { classes, stable: less < p && count(p - 1, p) == classes && count(p, p - 1) == classes })
 }
 
 /// What is seen of a claim over short words: whether it holds of each word of 2p columns.
