@@ -52,9 +52,16 @@ pub(super) fn explore(atom: &Part, sets: u32) -> Table {
     Table { rows, accept, width }
 }
 
-/// A state for each number of places, counted round by `modulus`.
+/// A state for each number of places below `modulus`, which are gone through round and round.
 fn count(modulus: u8, rest: u8, x: u8, sets: u32) -> Table {
     let (modulus, width) = (u32::from(modulus), 1 << sets);
-    let rows = (0..modulus).flat_map(|state| (0..width).map(move |column| (state + (column >> x & 1)) % modulus)).collect();
-    Table { rows, accept: (0..modulus).map(|state| state == u32::from(rest)).collect(), width: width as usize }
+    let mut rows = Vec::with_capacity(modulus as usize * width);
+    for state in 0..modulus {
+        for column in 0..width {
+            let places = state + (column >> x & 1) as u32;
+            rows.push(places % modulus);
+        }
+    }
+    let accept = (0..modulus).map(|state| state == u32::from(rest)).collect();
+    Table { rows, accept, width }
 }

@@ -80,9 +80,7 @@ impl Decider {
             Node::Single(x) => Some(one(*x)),
             Node::Next(x, y) => Some(one(*x) && one(*y) && set(*x) << 1 == set(*y)),
             Node::Before(x, y) => Some(one(*x) && one(*y) && set(*x) < set(*y)),
-            Node::Multiple(modulus, rest, x) => {
-                Some(set(*x).count_ones() % u32::from(*modulus) == u32::from(*rest))
-            }
+            Node::Multiple(modulus, rest, x) => Some(set(*x).count_ones() % u32::from(*modulus) == u32::from(*rest)),
             Node::Not(c) => Some(!self.part(*c, sets)?),
             Node::And(c, d) => {
                 let (c, d) = (*c, *d);
@@ -178,14 +176,7 @@ impl Decider {
 
     /// Every single place up to the second one behind the other sets, and a set for each way to say how many of its places are at
     /// each of the others' columns, with up to `period + 1` in none of them.
-    fn try_numbers(
-        &mut self,
-        x: usize,
-        part: usize,
-        others: &[u128],
-        period: u32,
-        sets: &mut Sets,
-    ) -> Option<bool> {
+    fn try_numbers(&mut self, x: usize, part: usize, others: &[u128], period: u32, sets: &mut Sets) -> Option<bool> {
         let used = others.iter().fold(0, |used, set| used | set);
         let last = 128 - used.leading_zeros();
         if last + period + 1 > FAR {
@@ -297,7 +288,7 @@ impl Hasher for Mixer {
 #[cfg(test)]
 mod tests {
     use super::*;
-    use crate::part::{and, before, multiple, next, not, single, some, within};
+    use crate::part::{and, before, multiple, next, not, or, single, some, within};
 
     use crate::second::random::Random;
     use crate::second::reach::{ALL_SETS, depth, period};
@@ -360,13 +351,39 @@ mod tests {
         // two counts at once: 13 places and so on, but no number is odd and even
         assert_eq!(decide(&some(1, and(multiple(4, 1, 1), multiple(6, 1, 1))), &[1]), Some(true));
         assert_eq!(decide(&some(1, and(multiple(4, 1, 1), multiple(6, 2, 1))), &[1]), Some(false));
-        // of the sets with 3 places and so on, all have a part with 2 and so on, and those of 1 and so on have not
+        // a set with 3 places, 6 and so on has a smaller one within it that has 2, 5 and so on; one with a single place has not
         let part = some(2, and(within(2, 1), and(multiple(3, 2, 2), not(within(1, 2)))));
-        assert_eq!(decide(&some(1, and(multiple(3, 0, 1), and(not(within(1, 0)), not(part.clone())))), &[]), Some(false));
+        assert_eq!(
+            decide(&some(1, and(multiple(3, 0, 1), and(not(within(1, 0)), not(part.clone())))), &[]),
+            Some(false)
+        );
         assert_eq!(decide(&some(1, and(multiple(3, 1, 1), not(part))), &[]), Some(true));
         // least common multiples for which the sets would reach too far are left open
         let far = some(1, and(multiple(16, 15, 1), and(multiple(15, 14, 1), multiple(7, 0, 1))));
         assert_eq!(decide(&far, &[]), None);
+    }
+
+    /// For each of these only the furthest of the sets that are tried will do.
+    #[test]
+    fn no_fewer_sets_suffice() {
+        let inside = |x, y| and(within(x, y), not(within(y, x)));
+        for n in 2..=8 {
+            // n + 1 places
+            let claim = some(1, and(multiple(n, 1, 1), not(single(1))));
+            assert_eq!(decide(&claim, &[]), Some(true), "{n}");
+            // 2n + 1 places, with n + 1 of them inside
+            let part = some(2, and(inside(2, 1), and(multiple(n, 1, 2), not(single(2)))));
+            assert_eq!(decide(&some(1, and(multiple(n, 1, 1), part)), &[]), Some(true), "{n}");
+            // what is counted is the set inside alone
+            let part = some(2, and(inside(2, 1), multiple(n, n - 1, 2)));
+            assert_eq!(decide(&some(1, part), &[]), Some(true), "{n}");
+        }
+        // 13 places, by the least common multiple
+        let claim = some(1, and(and(multiple(4, 1, 1), multiple(6, 1, 1)), not(single(1))));
+        assert_eq!(decide(&claim, &[1]), Some(true));
+        // a place behind the next one, where the claim does not show that it is a single one
+        let claim = some(1, or(and(before(0, 1), not(next(0, 1))), next(0, 0)));
+        assert_eq!(decide(&claim, &[0, 1]), Some(true));
     }
 
     /// A claim with every set of places below the first end tried for an outer `some`, and so on.

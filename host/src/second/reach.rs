@@ -58,16 +58,16 @@ pub fn reach(x: u8, c: &Part) -> Reach {
     if free_sets(c) >> x & 1 == 0 {
         return Reach::Any;
     }
+    let (depth, period) = (depth(c), period(c, 1 << x));
     let mut around = Vec::new();
     within_sets(c, x, &mut around);
-    if !around.is_empty() {
+    // a claim that counts is decided in fewer steps by numbers of places, where that can be
+    if !around.is_empty() && (depth > 0 || period == 1) {
         return Reach::Within(around);
     }
-    let depth = depth(c);
     if makes_single(c, x) && places_only(c) && depth < 5 {
         return Reach::Places(1 << (depth + 1));
     }
-    let period = period(c, 1 << x);
     match depth {
         0 => Reach::Plain(period),
         1 => Reach::Once(period),
@@ -182,6 +182,7 @@ mod tests {
         assert_eq!(reach(1, &both), Reach::Plain(12));
         assert_eq!(reach(1, &and(multiple(4, 1, 0), multiple(3, 1, 1))), Reach::Plain(3));
         assert_eq!(reach(1, &and(not(within(1, 0)), some(2, and(within(1, 2), multiple(2, 0, 2))))), Reach::Once(2));
+        assert_eq!(reach(1, &and(within(1, 0), multiple(2, 0, 1))), Reach::Plain(2));
         assert_eq!(reach(1, &and(single(1), multiple(2, 1, 1))), Reach::Places(2));
         assert_eq!(reach(1, &multiple(2, 1, 0)), Reach::Any);
         assert_eq!(period(&both, 0), 1);
