@@ -381,6 +381,14 @@ mod tests {
         // 13 places, by the least common multiple
         let claim = some(1, and(and(multiple(4, 1, 1), multiple(6, 1, 1)), not(single(1))));
         assert_eq!(decide(&claim, &[1]), Some(true));
+        // two places that are not that of set 0, one of them or none of them just behind it
+        let others = and(not(single(1)), and(not(within(1, 0)), not(within(0, 1))));
+        let behind = some(2, and(next(0, 2), within(2, 1)));
+        assert_eq!(decide(&some(1, and(others.clone(), behind.clone())), &[1]), Some(true));
+        assert_eq!(decide(&some(1, and(others, not(behind))), &[1]), Some(true));
+        // around set 1 and not around set 0: the place that both have, not the one that set 0 alone has
+        let claim = some(2, and(within(1, 2), and(not(within(0, 2)), multiple(2, 0, 2))));
+        assert_eq!(decide(&claim, &[1, 3]), Some(true));
         // a place behind the next one, where the claim does not show that it is a single one
         let claim = some(1, or(and(before(0, 1), not(next(0, 1))), next(0, 0)));
         assert_eq!(decide(&claim, &[0, 1]), Some(true));
@@ -405,21 +413,22 @@ mod tests {
         }
     }
 
-    /// Compares claims made at random, with `some` so deep and counted by at most so much, on all words of up to so many columns.
+    /// Compares claims about three sets made at random, with `some` so deep and counted by at most so much, on all words of so many
+    /// columns.
     fn compare_with_all_sets(claims: usize, nested: u32, largest: u32, columns: usize, ends: &[u32]) {
         let mut random = Random::new(1);
         let (mut counting, mut held, mut compared) = (0, 0, 0);
         while counting < claims {
             let signs = 3 + random.below(8);
-            let claim = random.counting_claim(2, signs, nested as usize);
+            let claim = random.counting_claim(3, signs, nested as usize);
             let period = period(&claim, ALL_SETS);
             if depth(&claim) != nested || period == 1 || period > largest {
                 continue;
             }
             counting += 1;
             let mut decider = Decider::new(&claim, 1 << 30);
-            for number in 0..4usize.pow(columns as u32) {
-                let word: Vec<u32> = (0..columns).map(|i| (number >> (2 * i) & 3) as u32).collect();
+            for number in 0..8usize.pow(columns as u32) {
+                let word: Vec<u32> = (0..columns).map(|i| (number >> (3 * i) & 7) as u32).collect();
                 let Some(value) = decider.holds(&mut sets(&word)) else { continue };
                 assert_eq!(value, by_all_sets(&claim, &mut sets(&word), ends), "{claim:?} {word:?}");
                 compared += 1;
@@ -432,7 +441,7 @@ mod tests {
     /// A single `some`, counted by up to 4: with 2 columns, sets of more than 7 places or further on than that decide nothing.
     #[test]
     fn the_sets_for_a_some_suffice() {
-        compare_with_all_sets(2000, 1, 4, 2, &[8]);
+        compare_with_all_sets(1000, 1, 4, 2, &[8]);
     }
 
     /// One `some` within another, counted by 2: sets for the outer one reach to place 6 at most, and those for the inner one to 9.
