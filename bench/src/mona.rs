@@ -9,6 +9,10 @@ use ceivuron::Answer;
 use ceivuron::part::Part;
 
 /// The text of a file for MONA: the same sets, the same claim.
+///
+/// # Panics
+///
+/// Where the claim counts by a number, which MONA has no words for.
 pub fn text(name: &str, sets: u8, part: &Part) -> String {
     let names: Vec<String> = (0..sets).map(|x| format!("X{x}")).collect();
     let mut text = format!("# {name}\nvar2 {};\n", names.join(","));
@@ -40,6 +44,7 @@ fn write_part(part: &Part, names: &[String], fresh: &mut usize, text: &mut Strin
             let p = new();
             write!(text, "(ex1 p{p}: ex1 q{p}: {}={{p{p}}} & {}={{q{p}}} & p{p}<q{p})", set(x), set(y))
         }
+        Part::Multiple(..) => panic!("MONA does not count"),
         Part::Not(c) => {
             text.push('~');
             write_part(c, names, fresh, text);

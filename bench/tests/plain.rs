@@ -40,7 +40,7 @@ fn answers_alike_at_random() {
     for _ in 0..1000 {
         let sets = 1 + random.below(5) as u8;
         let signs = 4 + random.below(60);
-        let claim = Claim::new(sets, &random.claim(sets, signs, 4));
+        let claim = Claim::new(sets, &random.counting_claim(sets, signs, 4));
         let most = 1 + random.below(300) as u32;
         assert_eq!(plain.judge(claim.bytes(), most), judge.judge(&claim, most).unwrap(), "{most} {claim:?}");
     }

@@ -5,7 +5,7 @@
 //! it memory and makes its answers an enum.
 //!
 //! ```
-//! use ceivuron::part::{and, before, some};
+//! use ceivuron::part::{and, before, multiple, or, some};
 //! use ceivuron::{Answer, Claim, Judge, Refused};
 //!
 //! // There is a place between that of set 0 and that of set 1.
@@ -21,6 +21,10 @@
 //!
 //! // Eleven classes must be told apart to work it out.
 //! assert_eq!(judge.judge(&claim, 10)?, Answer::Many);
+//!
+//! // Of every set the number of places is even or odd, and two classes are told apart.
+//! let claim = Claim::new(1, &or(multiple(2, 0, 0), multiple(2, 1, 0)));
+//! assert_eq!(judge.judge(&claim, 2)?, Answer::Always);
 //!
 //! // With so many classes it would not fit into memory, and nothing is allocated.
 //! assert!(matches!(judge.judge(&claim, u32::MAX), Err(Refused::TooLarge { .. })));

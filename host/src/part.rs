@@ -11,6 +11,9 @@ pub enum Part {
     Next(u8, u8),
     /// Both sets have one place, and the second's comes further on.
     Before(u8, u8),
+    /// The set, the third number, has t times the first number and the second places, for some t. The first number is 2 to
+    /// 16, the second below it.
+    Multiple(u8, u8, u8),
     /// The claim does not hold.
     Not(Box<Part>),
     /// Both claims hold.
@@ -39,6 +42,12 @@ pub fn before(x: u8, y: u8) -> Part {
     Part::Before(x, y)
 }
 
+/// `x` has a multiple of `modulus` places and `rest` besides. Bytes are no claim where `modulus` is not 2 to 16, or `rest` not
+/// below it.
+pub fn multiple(modulus: u8, rest: u8, x: u8) -> Part {
+    Part::Multiple(modulus, rest, x)
+}
+
 /// The claim does not hold.
 pub fn not(c: Part) -> Part {
     Part::Not(Box::new(c))
@@ -65,13 +74,14 @@ pub fn every(x: u8, c: Part) -> Part {
 }
 
 impl Part {
-    /// Appends the bytes of the claim: its sign, the numbers of its sets, then its parts.
+    /// Appends the bytes of the claim: its sign, the numbers by which it counts, those of its sets, then its parts.
     pub fn write(&self, bytes: &mut Vec<u8>) {
         match self {
             Part::Within(x, y) => bytes.extend([0, *x, *y]),
             Part::Single(x) => bytes.extend([1, *x]),
             Part::Next(x, y) => bytes.extend([2, *x, *y]),
             Part::Before(x, y) => bytes.extend([3, *x, *y]),
+            Part::Multiple(modulus, rest, x) => bytes.extend([7, *modulus, *rest, *x]),
             Part::Not(c) => {
                 bytes.push(4);
                 c.write(bytes);
@@ -93,6 +103,7 @@ impl Part {
         match self {
             Part::Single(_) => 2,
             Part::Within(..) | Part::Next(..) | Part::Before(..) => 3,
+            Part::Multiple(..) => 4,
             Part::Not(c) => 1 + c.size(),
             Part::And(c, d) => 1 + c.size() + d.size(),
             Part::Some(_, c) => 2 + c.size(),
@@ -100,7 +111,8 @@ impl Part {
     }
 
     /// The claim that bytes say, and about how many sets: the number of sets, 1 to 12, then the claim, all its sets
-    /// below that number, in at most 1,024 bytes. `None` where the bytes are no claim.
+    /// below that number, counted by 2 to 16 with a rest below that, in at most 1,024 bytes. `None` where the bytes are no
+    /// claim.
     pub fn read(bytes: &[u8]) -> Option<(u8, Part)> {
         if bytes.len() > 1024 {
             return None;
@@ -138,6 +150,9 @@ fn read_part(sets: u8, bytes: &[u8]) -> Option<(Part, &[u8])> {
             let (c, rest) = read_part(sets, rest)?;
             Some((some(x, c), rest))
         }
+        [7, modulus @ 2..=16, left, x, ref rest @ ..] if left < modulus => {
+            Some((multiple(modulus, left, set(x)?), rest))
+        }
         _ => None,
     }
 }
@@ -154,6 +169,42 @@ mod tests {
         assert_eq!(bytes, [2, 6, 1, 5, 2, 1, 0, 4, 0, 1, 0]);
         assert_eq!(part.size(), 10);
         assert_eq!(Part::read(&bytes), Some((2, part)));
+    }
+
+    #[test]
+    fn counts_as_bytes_and_tree() {
+        for (modulus, rest) in [(2, 0), (2, 1), (3, 2), (16, 15)] {
+            let part = and(not(multiple(modulus, rest, 1)), single(0));
+            let bytes = [2, 5, 4, 7, modulus, rest, 1, 1, 0];
+            let mut written = vec![2];
+            part.write(&mut written);
+            assert_eq!(written, bytes);
+            assert_eq!(part.size(), 8);
+            assert_eq!(Part::read(&bytes), Some((2, part)));
+        }
+    }
+
+    /// Counted by 0, by 1, by more than 16; a rest that is not below; a set that there is not; bytes that end too early or
+    /// too late.
+    #[test]
+    fn counts_that_are_no_claims() {
+        for bytes in [
+            &[1, 7, 0, 0, 0][..],
+            &[1, 7, 1, 0, 0],
+            &[1, 7, 17, 0, 0],
+            &[1, 7, 255, 0, 0],
+            &[1, 7, 2, 2, 0],
+            &[1, 7, 2, 255, 0],
+            &[1, 7, 16, 16, 0],
+            &[1, 7, 2, 0, 1],
+            &[12, 7, 2, 0, 12],
+            &[1, 7],
+            &[1, 7, 2],
+            &[1, 7, 2, 0],
+            &[1, 7, 2, 0, 0, 0],
+        ] {
+            assert_eq!(Part::read(bytes), None, "{bytes:?}");
+        }
     }
 
     #[test]

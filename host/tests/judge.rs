@@ -1,6 +1,6 @@
 //! The wrapper: every answer, memory that is kept, and what is refused before anything is allocated.
 
-use ceivuron::part::{Part, and, before, every, next, not, or, single, some, within};
+use ceivuron::part::{Part, and, before, every, multiple, next, not, or, single, some, within};
 use ceivuron::{Answer, Claim, Judge, Refused, Verdict, call, floor, judge};
 
 fn both(holds: &[u32], fails: &[u32]) -> Answer {
@@ -26,6 +26,46 @@ fn every_answer() {
     // one place, or none
     assert_eq!(ask(2, or(single(0), every(1, within(0, 1))), 9), both(&[], &[1, 1]));
     assert_eq!(ask(2, not(within(0, 1)), 2), both(&[1], &[]));
+}
+
+#[test]
+fn counting_by_a_number() {
+    let ask = |sets: u8, part: Part, most| judge(&Claim::new(sets, &part), most).unwrap();
+    // even, or odd
+    let part = not(and(not(multiple(2, 0, 0)), not(multiple(2, 1, 0))));
+    assert_eq!(ask(1, part.clone(), 2), Answer::Always);
+    assert_eq!(ask(1, part, 1), Answer::Many);
+    // no number is one more than a multiple of 4 and two more than one of 6
+    assert_eq!(ask(1, and(multiple(4, 1, 0), multiple(6, 2, 0)), 12), Answer::Never);
+    assert_eq!(ask(1, multiple(12, 11, 0), 12), both(&[1; 11], &[]));
+    // a part of set 0 has two places, or five, and so on
+    assert_eq!(ask(2, some(1, and(within(1, 0), multiple(3, 2, 1))), 6), both(&[1, 1], &[]));
+    // around every set there is one with an odd number of places, which may have to reach beyond it
+    assert_eq!(ask(2, some(1, and(within(0, 1), multiple(2, 1, 1))), 4), Answer::Always);
+}
+
+/// Counting by a number takes as many classes.
+#[test]
+fn counting_takes_so_many_classes() {
+    for modulus in 2..=16 {
+        for rest in 0..modulus {
+            let claim = Claim::new(1, &multiple(modulus, rest, 0));
+            let word = vec![1; usize::from(rest)];
+            let answer = if rest == 0 { both(&[], &[1]) } else { both(&word, &[]) };
+            assert_eq!(judge(&claim, u32::from(modulus)).unwrap(), answer);
+            assert_eq!(judge(&claim, u32::from(modulus) - 1).unwrap(), Answer::Many);
+        }
+    }
+}
+
+/// By 1, by 17, with a rest that is not below, of a set that there is not.
+#[test]
+fn counts_that_are_refused() {
+    for part in [multiple(1, 0, 0), multiple(17, 0, 0), multiple(2, 2, 0), multiple(16, 16, 0), multiple(2, 0, 1)] {
+        for most in [0, 17] {
+            assert_eq!(judge(&Claim::new(1, &part), most).unwrap(), Answer::NoClaim, "{part:?}");
+        }
+    }
 }
 
 #[test]

@@ -26,6 +26,7 @@ fn after(q: u8, x: bool, y: bool) -> u8 {
 /// The states that are reached, numbered as they are found.
 pub(super) fn explore(atom: &Part, sets: u32) -> Table {
     let (start, x, y) = match *atom {
+        Part::Multiple(modulus, rest, x) => return count(modulus, rest, x, sets),
         Part::Within(x, y) => (0, x, y),
         Part::Single(x) => (1, x, x),
         Part::Next(x, y) => (2, x, y),
@@ -48,5 +49,19 @@ pub(super) fn explore(atom: &Part, sets: u32) -> Table {
         i += 1;
     }
     let accept = states.iter().map(|state| matches!(state, 0 | 6 | 7)).collect();
+    Table { rows, accept, width }
+}
+
+/// A state for each number of places below `modulus`, which are gone through round and round.
+fn count(modulus: u8, rest: u8, x: u8, sets: u32) -> Table {
+    let (modulus, width) = (u32::from(modulus), 1 << sets);
+    let mut rows = Vec::with_capacity(modulus as usize * width);
+    for state in 0..modulus {
+        for column in 0..width {
+            let places = state + (column >> x & 1) as u32;
+            rows.push(places % modulus);
+        }
+    }
+    let accept = (0..modulus).map(|state| state == u32::from(rest)).collect();
     Table { rows, accept, width }
 }

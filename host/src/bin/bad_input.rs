@@ -37,11 +37,13 @@ fn main() -> ExitCode {
     if faults == 0 { ExitCode::SUCCESS } else { ExitCode::FAILURE }
 }
 
-/// Bytes: a claim, a claim with some bytes changed, bytes that may well be a claim, or any bytes; seldom more than a claim may have.
+/// Bytes: a claim, a claim with some bytes changed, a count that may well be none, bytes that may well be a claim, or any bytes; seldom
+/// more than a claim may have.
 fn input(random: &mut Random) -> Vec<u8> {
     match random.below(20) {
         0..=3 => claim(random),
-        4..=10 => {
+        4 | 5 => count(random),
+        6..=10 => {
             let mut bytes = claim(random);
             for _ in 0..1 + random.below(3) {
                 mutate(random, &mut bytes);
@@ -71,7 +73,28 @@ fn input(random: &mut Random) -> Vec<u8> {
 fn claim(random: &mut Random) -> Vec<u8> {
     let sets = 1 + random.below(3) as u8;
     let (signs, depth) = (1 + random.below(6), random.below(3));
-    Claim::new(sets, &random.claim(sets, signs, depth)).bytes().to_vec()
+    Claim::new(sets, &random.counting_claim(sets, signs, depth)).bytes().to_vec()
+}
+
+/// A claim that counts, alone or as a part: its number, its rest and its set at the edge of what may be, or its end cut off.
+fn count(random: &mut Random) -> Vec<u8> {
+    let sets = 1 + random.below(12) as u8;
+    let modulus = [0, 1, 2, 3, 15, 16, 17, 255][random.below(8)];
+    let rest = match random.below(8) {
+        0 => random.word() as u8,
+        1 => modulus,
+        2 => modulus.wrapping_add(1),
+        3 => 0,
+        _ => modulus.wrapping_sub(1),
+    };
+    let x = if random.one_in(6) { sets } else { random.below(usize::from(sets)) as u8 };
+    let mut bytes = vec![sets];
+    bytes.extend([&[][..], &[4], &[5, 1, 0], &[6, 0]][random.below(4)]);
+    bytes.extend([7, modulus, rest, x]);
+    if random.one_in(6) {
+        bytes.truncate(bytes.len() - 1 - random.below(4));
+    }
+    bytes
 }
 
 /// One change: a byte put in, taken out, changed or exchanged, or the end cut off.

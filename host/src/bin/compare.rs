@@ -60,7 +60,7 @@ fn draw(random: &mut Random, judge: &mut Judge, tally: &Tally, count: usize) -> 
         let sets = 1 + [0, 1, 1, 1, 2, 2, 2, 2, 3][random.below(9)];
         let signs = 2 + random.below(16);
         let nested = [0, 1, 1, 2, 2, 3, 3, 4][random.below(8)];
-        let part = random.claim(sets, signs, nested);
+        let part = random.counting_claim(sets, signs, nested);
         if depth(&part) == 0 && !random.one_in(4) {
             continue;
         }

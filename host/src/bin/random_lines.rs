@@ -13,7 +13,7 @@ fn main() -> io::Result<()> {
     for _ in 0..count {
         let sets = 4 + random.below(4) as u8;
         let signs = 40 + random.below(80);
-        let claim = Claim::new(sets, &random.claim(sets, signs, 4));
+        let claim = Claim::new(sets, &random.counting_claim(sets, signs, 4));
         write!(output, "{} ", 50 + random.below(200))?;
         for byte in claim.bytes() {
             write!(output, "{byte:02x}")?;

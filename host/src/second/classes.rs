@@ -7,11 +7,12 @@
 //!
 //! Over words of up to p columns, with up to q columns behind, no class is counted that is not there, since what is seen of a word
 //! is determined by its class. So the count is at most the true one; it is taken for the true one where a column more or less, in
-//! the words or behind them, changes nothing.
+//! the words or behind them, changes nothing. Of a claim that counts so few columns may show nothing at all, so there the columns must
+//! also be more than the least common multiple of the numbers by which it counts.
 
 use std::collections::{BTreeSet, HashMap, HashSet};
 
-use super::reach::free_sets;
+use super::reach::{ALL_SETS, free_sets, period};
 use super::table::{Table, Tracks};
 use crate::part::Part;
 
@@ -92,7 +93,8 @@ fn count_within(c: &Part, tracks: &Tracks, p: usize, budget: u64) -> Option<Coun
         _ => count_together(tracks, &seen, p, q),
     };
     let classes = count(p, p);
-    Some(Count { classes, stable: count(p - 1, p) == classes && count(p, p - 1) == classes })
+    let less = period(c, ALL_SETS) as usize;
+    Some(Count { classes, stable: less < p && count(p - 1, p) == classes && count(p, p - 1) == classes })
 }
 
 /// What is seen of a claim over short words: whether it holds of each word of 2p columns.
@@ -188,7 +190,7 @@ fn with(tracks: &Tracks, bit: usize, number: usize, length: usize, places: usize
 #[cfg(test)]
 mod tests {
     use super::*;
-    use crate::part::{and, before, next, single, some, within};
+    use crate::part::{and, before, multiple, next, single, some, within};
 
     fn counted(claim: &Part) -> Option<Count> {
         Counter::default().count(claim, 1 << 30)
@@ -205,5 +207,15 @@ mod tests {
         assert_eq!(counted(&and(before(0, 1), before(1, 0))), stable(6));
         assert_eq!(counted(&some(1, within(1, 0))), stable(2));
         assert_eq!(counted(&some(1, next(0, 1))), stable(4));
+        assert_eq!(counted(&multiple(2, 1, 0)), stable(2));
+        assert_eq!(counted(&multiple(6, 0, 0)), stable(6));
+        assert_eq!(counted(&and(multiple(2, 0, 0), multiple(3, 2, 0))), stable(6));
+        assert_eq!(counted(&some(1, and(within(1, 0), multiple(3, 2, 1)))), stable(6));
+    }
+
+    /// Of this claim seven columns with seven behind show nothing: it holds first of fifteen.
+    #[test]
+    fn what_is_not_seen_is_not_taken_for_true() {
+        assert_eq!(counted(&multiple(16, 15, 0)), Some(Count { classes: 1, stable: false }));
     }
 }

@@ -93,7 +93,7 @@ impl Pins<'_> {
 /// One more than the largest number of a set in the claim.
 fn count_sets(c: &Part) -> u8 {
     match c {
-        Part::Single(x) => x + 1,
+        Part::Single(x) | Part::Multiple(_, _, x) => x + 1,
         Part::Within(x, y) | Part::Next(x, y) | Part::Before(x, y) => x.max(y) + 1,
         Part::Not(c) => count_sets(c),
         Part::And(c, d) => count_sets(c).max(count_sets(d)),

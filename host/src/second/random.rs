@@ -1,6 +1,6 @@
 //! Claims and bytes made at random, the same ones for the same seed.
 
-use crate::part::{Part, and, before, next, not, single, some, within};
+use crate::part::{Part, and, before, multiple, next, not, single, some, within};
 
 /// A small generator of random numbers (splitmix64): the state goes up by a constant, and is mixed.
 pub struct Random(u64);
@@ -28,29 +28,56 @@ impl Random {
         self.below(chances) == 0
     }
 
-    /// A claim about `sets` sets, with about `signs` signs, and `some` at most `depth` deep.
+    /// A claim about `sets` sets, with about `signs` signs, and `some` at most `depth` deep. It does not count.
     pub fn claim(&mut self, sets: u8, signs: usize, depth: usize) -> Part {
-        let set = |random: &mut Random| random.below(usize::from(sets)) as u8;
+        self.claim_of(Random::sign, sets, signs, depth)
+    }
+
+    /// The same, of which about a third of the signs without parts count.
+    pub fn counting_claim(&mut self, sets: u8, signs: usize, depth: usize) -> Part {
+        self.claim_of(Random::counting_sign, sets, signs, depth)
+    }
+
+    /// A claim whose signs without parts are made by `sign`.
+    fn claim_of(&mut self, sign: fn(&mut Random, u8) -> Part, sets: u8, signs: usize, depth: usize) -> Part {
         if signs < 2 {
-            let (x, y) = (set(self), set(self));
-            return match self.below(4) {
-                0 => within(x, y),
-                1 => single(x),
-                2 => next(x, y),
-                _ => before(x, y),
-            };
+            return sign(self, sets);
         }
         match self.below(if depth > 0 { 12 } else { 7 }) {
-            0..=2 => not(self.claim(sets, signs - 1, depth)),
+            0..=2 => not(self.claim_of(sign, sets, signs - 1, depth)),
             3..=6 => {
                 let first = 1 + self.below(signs - 1);
-                let c = self.claim(sets, first, depth);
-                and(c, self.claim(sets, signs - first, depth))
+                let c = self.claim_of(sign, sets, first, depth);
+                and(c, self.claim_of(sign, sets, signs - first, depth))
             }
             _ => {
-                let x = set(self);
-                some(x, self.claim(sets, signs - 1, depth - 1))
+                let x = self.set(sets);
+                some(x, self.claim_of(sign, sets, signs - 1, depth - 1))
             }
         }
+    }
+
+    /// The number of a set.
+    fn set(&mut self, sets: u8) -> u8 {
+        self.below(usize::from(sets)) as u8
+    }
+
+    fn sign(&mut self, sets: u8) -> Part {
+        let (x, y) = (self.set(sets), self.set(sets));
+        match self.below(4) {
+            0 => within(x, y),
+            1 => single(x),
+            2 => next(x, y),
+            _ => before(x, y),
+        }
+    }
+
+    /// A sign without parts; one in three counts, mostly by 2 to 4, now and then by up to 16.
+    fn counting_sign(&mut self, sets: u8) -> Part {
+        if !self.one_in(3) {
+            return self.sign(sets);
+        }
+        let modulus = if self.one_in(12) { 2 + self.below(15) } else { [2, 2, 2, 3, 3, 4][self.below(6)] };
+        multiple(modulus as u8, self.below(modulus) as u8, self.set(sets))
     }
 }

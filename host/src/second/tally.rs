@@ -2,7 +2,7 @@
 
 use std::fmt;
 
-use super::reach::depth;
+use super::reach::{ALL_SETS, depth, period};
 use crate::part::Part;
 
 /// What was compared, over all claims.
@@ -14,8 +14,10 @@ pub struct Tally {
     pub both: usize,
     /// Claims that need more classes than were allowed here; nothing else is compared of them.
     pub many: usize,
-    /// Claims with which each sign occurs: within, single, next, before, not, and, some.
-    pub signs: [usize; 7],
+    /// Claims with which each sign occurs: within, single, next, before, not, and, some, multiple.
+    pub signs: [usize; 8],
+    /// Claims that count, by the least common multiple of the numbers by which they do: 2, 3, 4, up to 12, more.
+    pub periods: [usize; 5],
     /// Claims by how deep `some` is nested: 0, 1, 2, 3 or more.
     pub depths: [usize; 4],
     /// Claims of which all words of up to so many columns are looked at.
@@ -34,21 +36,28 @@ pub struct Tally {
 impl Tally {
     /// Notes which signs a claim has, and how deep `some` is nested.
     pub fn note_form(&mut self, part: &Part) {
-        let mut seen = [false; 7];
+        let mut seen = [false; 8];
         note_signs(part, &mut seen);
         for (count, seen) in self.signs.iter_mut().zip(seen) {
             *count += usize::from(seen);
         }
         self.depths[depth(part).min(3) as usize] += 1;
+        match period(part, ALL_SETS) {
+            1 => {}
+            period @ 2..=4 => self.periods[period as usize - 2] += 1,
+            5..=12 => self.periods[3] += 1,
+            _ => self.periods[4] += 1,
+        }
     }
 }
 
-fn note_signs(c: &Part, seen: &mut [bool; 7]) {
+fn note_signs(c: &Part, seen: &mut [bool; 8]) {
     match c {
         Part::Within(..) => seen[0] = true,
         Part::Single(..) => seen[1] = true,
         Part::Next(..) => seen[2] = true,
         Part::Before(..) => seen[3] = true,
+        Part::Multiple(..) => seen[7] = true,
         Part::Not(c) => {
             seen[4] = true;
             note_signs(c, seen);
@@ -69,11 +78,11 @@ impl fmt::Display for Tally {
     fn fmt(&self, f: &mut fmt::Formatter<'_>) -> fmt::Result {
         let Tally { claims, always, never, both, many, .. } = self;
         writeln!(f, "  {claims} claims: {always} always, {never} never, {both} both, {many} too many classes")?;
-        let [within, single, next, before, not, and, some] = self.signs;
-        writeln!(
-            f,
-            "  with within {within}, single {single}, next {next}, before {before}, not {not}, and {and}, some {some}"
-        )?;
+        let [within, single, next, before, not, and, some, multiple] = self.signs;
+        write!(f, "  with within {within}, single {single}, next {next}, before {before}, multiple {multiple}, ")?;
+        writeln!(f, "not {not}, and {and}, some {some}")?;
+        let [two, three, four, to_twelve, beyond] = self.periods;
+        writeln!(f, "  that count by 2 {two}, 3 {three}, 4 {four}, 5 to 12 {to_twelve}, more {beyond}")?;
         let [none, once, twice, more] = self.depths;
         writeln!(f, "  some nested 0 deep {none}, 1 {once}, 2 {twice}, 3 and more {more}")?;
         writeln!(f, "  all words of up to 0, 1, ... 6 columns looked at: {:?} claims", self.columns)?;
