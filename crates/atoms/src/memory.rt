@@ -6,6 +6,7 @@ use crate::kind::Kind;
 
 /// The states that the machine of a claim reaches over words of `sets` sets: number i is found[i].
 /// There are at most sixteen, and there is room for one more.
+#[derive(Drop)]
 pub struct States<'m, K: Kind> {
     pub kind: K,
     pub sets: u32,

@@ -36,10 +36,10 @@ impl<K: Kind> Frontier for States<'_, K> {
     type Origin = K::State;
 
     ghost seen = { λ f. record {
-        automaton = reading f.sets (K.machine f.kind);
-        room = 17;
-        at = λ i. slice_index_or f.found.now i (K.machine f.kind).start;
-        Holds = λ m. Unit {0};
+      automaton = reading f.sets (K.machine f.kind);
+      room = 17;
+      at = λ i. slice_index_or f.found.now i (K.machine f.kind).start;
+      Holds = λ m. Unit {0};
     } };
 
     ghost Of = { λ state r. r ≡ state };

@@ -1,34 +1,31 @@
 -- The parts of a claim by its sign, from the claim that the bytes are.
-use Rattle.std.proofs.Common.{◌≡◌, ℕ, ◌+◌, ◌-◌, ◌<◌, ◌≤◌, T, List, [], ◌∷◌, ◌++◌, length, take, sym, refl, ap, ◌∙◌, subst, inl, inr, append-nil, arith, ltb→lt, length-append}
+use Rattle.std.proofs.Common.{◌≡◌, ℕ, ◌+◌, ◌-◌, ◌<◌, ◌≤◌, T, List, [], ◌∷◌, ◌++◌, length, take, sym, refl, ap, ◌∙◌, subst, inl, inr, append-nil, arith, ltb→lt, leb→le, length-append}
 use Rattle.std.proofs.lemmas.List.{take_at}
-use Rattle.claims.specs.Claims.{C, and1, before, next, not1, single, some, within}
-use Rattle.claims.specs.Atoms.{atom, Named}
+use Rattle.kinds.specs.Atoms.{row_of, sets_of}
+use Rattle.kinds.proofs.AtomLaws.{row_long}
+use Rattle.claims.specs.Claims.{C, and1, atom, not1, some}
 use Rattle.claims.specs.Fronts.{Front}
 use Rattle.claims.specs.Rows.{row, ok}
 use Rattle.claims.specs.Signs.{head}
-use Rattle.claims.proofs.AtomLaws.{atom_named}
 use Rattle.claims.proofs.FrontLaws.{and_front, front_and, front_not, front_some, not_front, same_front, some_front}
 use Rattle.claims.proofs.OneClaim.{one_front}
 use Rattle.claims.proofs.SignLaws.{sign_is}
-use Rattle.claims.specs.declared.atom.Atom.{Atom}
+use Rattle.kinds.specs.declared.atom.Atom.{Atom}
 use Rattle.claims.specs.declared.sign.Sign.{Sign}
 use Rattle.claims.specs.declared.sign.Sign.TheVariants.{Not, And, Some as Sign-some}
 use Rattle.words.specs.declared.bits.Set.{Set}
 use Rattle.construct.specs.WorkOut.{Halves, IsPart}
 
 -- A claim without parts.
-pub leaf_front : (k : ℕ) (a : Atom) (c : C) (rest s : List ℕ) → row (atom a) ++ rest ≡ s → Front k c s [] → Named k a × Front k (atom a) s []
+pub leaf_front : (k : ℕ) (a : Atom) (c : C) (rest s : List ℕ) → row_of a ++ rest ≡ s → Front k c s [] → (sets_of a ≤ k) × Front k (atom a) s []
 leaf_front k a c rest s e f =
     let (g, h) = one_front (atom a) c rest [] (e ∙ sym f.rows) in
     let t : T (ok k (atom a)) = subst (λ z. T (ok k z)) (sym g) f.fine in
-    (atom_named k a t, subst (λ z. Front k z s []) (sym g) f)
+    (leb→le (sets_of a) k t, subst (λ z. Front k z s []) (sym g) f)
 
 -- a claim has two bytes at least
 row_two : (c : C) → 2 ≤ length (row c)
-row_two (within x y) = omega arith
-row_two (single x) = omega arith
-row_two (next x y) = omega arith
-row_two (before x y) = omega arith
+row_two (atom a) = row_long a
 row_two (not1 c) = let h = row_two c in omega arith
 row_two (and1 c d) = let h = row_two c in simp length-append (omega arith)
 row_two (some x c) = omega arith

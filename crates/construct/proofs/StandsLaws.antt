@@ -1,7 +1,7 @@
 -- A claim's table on a sheet: what a reader of it needs, and that the two parts of an and may be
 -- worked out in either order.
 use Rattle.std.proofs.Common.{◌≡◌, ℕ, ◌<◌, Bool, List, [], None, Some, Option, ◌∙◌, subst, arith}
-use Rattle.claims.specs.Claims.{C, Of, and1, before, next, not1, single, some, within}
+use Rattle.claims.specs.Claims.{C, Of, and1, atom, not1, some}
 use Rattle.claims.specs.Fronts.{Front}
 use Rattle.claims.specs.Sizes.{Fits, Top}
 use Rattle.claims.proofs.FrontLaws.{same_front}
@@ -74,10 +74,7 @@ top_none : (k : ℕ) (c : C) → Top k 0 c → ⊥
 top_none k c t = let (ws, cl, h) = t in let (i, u, e, a) = cl.all [] tt in let b = nth_below ws i u e in omega arith
 
 pub fits_none : (k : ℕ) (c : C) → Fits k 0 c → ⊥
-fits_none k (within x y) f = top_none k (within x y) f
-fits_none k (single x) f = top_none k (single x) f
-fits_none k (next x y) f = top_none k (next x y) f
-fits_none k (before x y) f = top_none k (before x y) f
+fits_none k (atom a) f = top_none k (atom a) f
 fits_none k (not1 c) f = fits_none k c f
 fits_none k (and1 c d) f = fits_none k c f.0
 fits_none k (some x c) f = fits_none k c f.0

@@ -1,10 +1,9 @@
 -- Working a part out, by its sign: what is made of the results of its parts.
 use Rattle.std.proofs.Common.{◌≡◌, ℕ, ◌<◌, Bool, not, List, [], None, Some, Option, sym, ◌∙◌, subst, ⊎_elim, MatchOption}
-use Rattle.claims.specs.Atoms.{atom}
-use Rattle.claims.specs.Claims.{C, and1, not1}
+use Rattle.claims.specs.Claims.{C, and1, atom, not1}
 use Rattle.claims.specs.Fronts.{Front}
 use Rattle.claims.specs.Sizes.{Fits}
-use Rattle.claims.specs.declared.atom.Atom.{Atom}
+use Rattle.kinds.specs.declared.atom.Atom.{Atom}
 use Rattle.claims.proofs.FrontLaws.{same_front}
 use Rattle.atoms.specs.AtomTable.{Exact as ExactTable}
 use Rattle.automata.proofs.Working.{shown_not, worked_not}

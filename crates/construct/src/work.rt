@@ -27,7 +27,7 @@ impl Work<'_> {
         ensures free { length result.free.now ≡ 9 * slot_words shape.width shape.most }
     {
         let (free, rest) = words.split_at_mut(9 * (shape.most * shape.width + shape.most));
-        let (scratch, pairs) = rest.split_at_mut(12 * shape.width + 96 * (shape.most + 1));
+        let (scratch, pairs) = rest.split_at_mut(16 * shape.width + 96 * (shape.most + 4));
         Work {
             shape,
             free,

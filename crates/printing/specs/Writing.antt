@@ -8,7 +8,7 @@ use Rattle.printing.specs.declared.print.Style.TheVariants.{Few, All}
 
 -- the text that there would be, were these words written next
 abbrev pub text_with : Writer → List Word → List ℕ
-text_with w ws = string_bytes w.out ++ spaced_behind w.last ws
+text_with w ws = string_bytes w.out ++ spaced_behind w.last w.inside ws
 
 -- whatever words are written next, the text is the same as if `front` of them had been written before
 abbrev pub Writes : Writer → Writer → (List Word → List Word) → Type 0

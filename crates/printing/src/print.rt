@@ -1,7 +1,7 @@
 // Prints a tree as a text that is read as the same tree.
-ghost use Rattle.std.specs.Prelude.{◌≡◌, ◌∷◌, [], OnOk, IfOk, map, false, string_bytes};
+ghost use Rattle.std.specs.Prelude.{◌≡◌, ◌∷◌, [], decimal, OnOk, IfOk, map, false, string_bytes};
 ghost use Rattle.tokens.specs.Spaced.{spaced};
-ghost use Rattle.syntax.specs.Plain.{names as all_names, written, list, open_, close, semicolon};
+ghost use Rattle.syntax.specs.Plain.{names as all_names, written, list, open_, close, bar, tally, semicolon};
 ghost use Rattle.syntax.specs.Views.{names_of, view, view_all};
 ghost use Rattle.tokens.specs.declared.kind.Kind.TheVariants as kind;
 ghost use Rattle.tokens.specs.Words.{word};
@@ -45,6 +45,17 @@ fn put_names(writer: &mut Writer, names: &[Name]) -> Result<(), AllocError>
         writer.word(Kind::Name, name.text.as_str())?;
     }
     Ok(())
+}
+
+// What is said of the number of a set's places, behind the set.
+fn put_tally(writer: &mut Writer, modulus: u32, rest: u32) -> Result<(), AllocError>
+    ensures { OnOk result (Writes writer.old writer.new (λ r. tally (decimal modulus) (decimal rest) r)) }
+{
+    writer.word(Kind::Or, "|")?;
+    writer.word(Kind::Name, "mod")?;
+    writer.number(modulus)?;
+    writer.word(Kind::Equal, "=")?;
+    writer.number(rest)
 }
 
 // An expression in parentheses.
@@ -124,6 +135,11 @@ fn put(writer: &mut Writer, style: Style, expr: &Expr) -> Result<(), AllocError>
                 put_enclosed(writer, style, inside)
             }
         },
+        ExprKind::Count(set, modulus, rest) => {
+            writer.word(Kind::Or, "|")?;
+            put_operand(writer, style, set, EXTREME + 1)?;
+            put_tally(writer, modulus.kind, rest.kind)
+        }
         ExprKind::Binary(binary, left, right) => {
             let (kind, sign) = sign_word(*binary);
             put_operand(writer, style, left, left_of(*binary))?;

@@ -2,17 +2,18 @@
 ghost use Rattle.std.specs.Prelude.{◌≡◌, ◌∷◌, List, OnOk, string_bytes, decimal};
 ghost use Rattle.tokens.specs.declared.kind.Kind.TheVariants as kind;
 ghost use Rattle.tokens.specs.Words.{Word, word};
-ghost use Rattle.tokens.specs.Spaced.{clings, is_apart, gap_before, line_end, spaced};
+ghost use Rattle.tokens.specs.Spaced.{clings, is_apart, is_bar, ends_operand, is_inside, is_beside, gap_before, line_end, spaced};
 ghost use Rattle.printing.specs.Writing.{text_with, Writes};
 
 use std::alloc::{AllocError, Global};
 use tokens::kind::Kind;
 
-/// A text that is being written, and the kind of its last word.
+/// A text that is being written, the kind of its last word, and whether a `|` is open behind which stands a set whose places are counted.
 #[derive(Drop)]
 pub struct Writer {
     out: String,
     last: Kind,
+    inside: bool,
 }
 
 // Whether a word that begins with a byte stands close behind what is before it.
@@ -35,14 +36,56 @@ fn is_apart(last: Kind, b: u8) -> bool
     }
 }
 
+fn is_bar(kind: Kind) -> bool
+    ensures { result ≡ is_bar kind }
+{
+    match kind {
+        Kind::Or => true,
+        _ => false,
+    }
+}
+
+// Whether an operand can end with a word of a kind.
+fn ends_operand(kind: Kind) -> bool
+    ensures { result ≡ ends_operand kind }
+{
+    match kind {
+        Kind::Name
+        | Kind::Number
+        | Kind::True
+        | Kind::False
+        | Kind::Empty
+        | Kind::Close
+        | Kind::CloseSet => true,
+        _ => false,
+    }
+}
+
+// Whether a `|` is open behind a word of a kind.
+fn is_inside(last: Kind, inside: bool, kind: Kind) -> bool
+    ensures { result ≡ is_inside last inside kind }
+{
+    match kind {
+        Kind::Or => !(inside || ends_operand(last)),
+        _ => inside,
+    }
+}
+
+// Whether one of two words is `|`, within two of which no blank stands beside them.
+fn is_beside(last: Kind, inside: bool, kind: Kind) -> bool
+    ensures { result ≡ is_beside last inside kind }
+{
+    inside && (is_bar(last) || is_bar(kind))
+}
+
 // What stands between a word of a kind and another.
-fn gap_before(last: Kind, text: &str) -> &'static str
-    ensures { result.now ≡ gap_before last text.now }
+fn gap_before(last: Kind, inside: bool, kind: Kind, text: &str) -> &'static str
+    ensures { result.now ≡ gap_before last inside kind text.now }
 {
     let [b, ..] = text.as_bytes() else {
         return "";
     };
-    if is_apart(last, *b) {
+    if !is_beside(last, inside, kind) && is_apart(last, *b) {
         return " ";
     }
     ""
@@ -66,6 +109,7 @@ impl Writer {
         Writer {
             out: String::new(heap),
             last: Kind::Semicolon,
+            inside: false,
         }
     }
 
@@ -76,10 +120,13 @@ impl Writer {
     pub fn word(&mut self, kind: Kind, text: &str) -> Result<(), AllocError>
         ensures { OnOk result (Writes self.old self.new (λ rest. word kind text.now ∷ rest)) }
     {
-        self.out.push_str(gap_before(self.last, text))?;
+        let inside = is_inside(self.last, self.inside, kind);
+        self.out
+            .push_str(gap_before(self.last, self.inside, kind, text))?;
         self.out.push_str(text)?;
         self.out.push_str(line_end(kind))?;
         self.last = kind;
+        self.inside = inside;
         Ok(())
     }
 

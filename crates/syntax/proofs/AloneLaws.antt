@@ -15,7 +15,7 @@ use Rattle.trees.specs.declared.tree.Sort.{Sort}
 use Rattle.trees.specs.declared.tree.Sort.TheVariants.{Place, Set}
 use Rattle.trees.specs.declared.tree.Quantifier.{Quantifier}
 use Rattle.trees.specs.declared.tree.Quantifier.TheVariants as quantifier
-use Rattle.syntax.specs.Plain.{Plain, yes, no, nowhere, number, digits, named, paren, listed, prefixed, joined, bound, call, Plains, none, more, sign_of, quantifier_of, names, names_more, written, list_more, close}
+use Rattle.syntax.specs.Plain.{Plain, yes, no, nowhere, number, digits, named, paren, listed, prefixed, joined, bound, call, counted, tallied, Plains, none, more, sign_of, quantifier_of, mod_bytes, tally, names, names_more, written, list_more, close}
 use Rattle.syntax.specs.Parsing.{right_of, MOST}
 use Rattle.syntax.specs.Items.{PlainItem, free, predicate, assumed, claimed, sort_word, parameters, parameters_more, written_item, written_items}
 use Rattle.syntax.specs.Printed.{left_of, enclosed, within_parens, text, texts, IsTree, AreTrees, text_item, IsTreeItem, AreTreeItems}
@@ -174,6 +174,9 @@ number_alone n h = let d : AreDigits n (decimal n) = decimal_by_steps AreDigits 
 number_goes : (n : ℕ) (ws : List Word) → n ≤ MOST → Goes ws → Goes (word kind.Number (decimal n) ∷ ws)
 number_goes n ws le q = record { alone = λ h. (number_alone n le, q.alone h) }
 
+tally_goes : (m r : ℕ) (rest : List Word) → m ≤ MOST → r ≤ MOST → Goes rest → Goes (tally (decimal m) (decimal r) rest)
+tally_goes m r rest h i q = sign_goes binary.Or _ (name_goes mod_bytes _ (number_goes m _ h (sign_goes binary.Equal _ (number_goes r rest i q))))
+
 names_more_go : (xs : List (List ℕ)) (rest : List Word) → Goes rest → Goes (names_more xs rest)
 names_more_go [] rest q = q
 names_more_go (x ∷ xs) rest q = comma_goes _ (name_goes x _ (names_more_go xs rest q))
@@ -203,6 +206,8 @@ mutual
   tree_goes (prefixed unary.IsEmpty t) all rest x q = nowhere_goes _ (open_goes _ (tree_goes t all _ x (close_goes rest q)))
   tree_goes (joined b s t) all rest x q = enclosed_goes (within_parens all (left_of b) s) (text all s) _ (λ ws r. tree_goes s all ws x.0 r) (sign_goes b _ (enclosed_goes (within_parens all (right_of b) t) (text all t) rest (λ ws r. tree_goes t all ws x.1 r) q))
   tree_goes (bound k sort xs t) all rest x q = quantifier_goes k sort _ (names_go xs _ (colon_goes _ (enclosed_goes (within_parens all 0 t) (text all t) rest (λ ws r. tree_goes t all ws x.1 r) q)))
+  tree_goes (counted t m r) all rest x q = sign_goes binary.Or _ (enclosed_goes (within_parens all 9 t) (text all t) _ (λ ws s. tree_goes t all ws x.0 s) (tally_goes m r rest x.1 x.2 q))
+  tree_goes (tallied t d e) all rest x q = absurd x
   tree_goes (call f none) all rest x q = name_goes f _ (open_goes _ (close_goes rest q))
   tree_goes (call f (more t ts)) all rest x q = name_goes f _ (open_goes _ (tree_goes t all _ x.1.0 (list_more_goes ts all _ x.1.1 (close_goes rest q))))
 

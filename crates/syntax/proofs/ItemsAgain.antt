@@ -7,7 +7,7 @@ use Rattle.trees.specs.declared.tree.Sort.TheVariants.{Place, Set}
 use Rattle.trees.specs.declared.tree.Quantifier.{Quantifier}
 use Rattle.trees.specs.declared.tree.Quantifier.TheVariants as quantifier
 use Rattle.tokens.specs.Words.{Word, word}
-use Rattle.syntax.specs.Plain.{Plain, number, prefixed, joined, bound, sign_of, quantifier_of, colon, semicolon, close, names, written}
+use Rattle.syntax.specs.Plain.{Plain, number, prefixed, joined, bound, counted, sign_of, quantifier_of, colon, semicolon, close, names, written}
 use Rattle.syntax.specs.Parsing.{Reader, begins, parse}
 use Rattle.syntax.specs.Grammar.{bare, AreNames, IsText}
 use Rattle.syntax.specs.Items.{PlainItem, free, predicate, assumed, claimed, sort_of, more_parameters, parameters_at, formula_at, claimed_at, item_at, more_read, read_words, sort_word, parameters, parameters_more, equal, written_item, written_items, bare_item, IsFormula, AreParameters, IsItem, AreItems}
@@ -22,6 +22,7 @@ quantifier_no_header quantifier.All Set ws = refl
 
 no_header : (t : Plain) (rest : List Word) → IsText t → begins kind.Ws1s (written t rest) ≡ false
 no_header (number n) rest x = absurd x
+no_header (counted t m r) rest x = absurd x
 no_header (prefixed unary.Not t) rest x = refl
 no_header (prefixed unary.Min t) rest x = refl
 no_header (prefixed unary.Max t) rest x = refl
@@ -39,6 +40,7 @@ quantifier_claimed p n quantifier.All Set ws = refl
 -- a formula begins as no other item does
 is_claimed : (p : Reader) (n : ℕ) (t : Plain) (rest : List Word) → IsText t → item_at p n (written t rest) ≡ claimed_at p (written t rest)
 is_claimed p n (number i) rest x = absurd x
+is_claimed p n (counted t i j) rest x = absurd x
 is_claimed p n (prefixed unary.Not t) rest x = refl
 is_claimed p n (prefixed unary.Min t) rest x = refl
 is_claimed p n (prefixed unary.Max t) rest x = refl

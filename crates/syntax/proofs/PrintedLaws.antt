@@ -6,7 +6,7 @@ use Rattle.std.proofs.lemmas.Bool.{cases_lt}
 use Rattle.trees.specs.declared.tree.Unary.TheVariants as unary
 use Rattle.trees.specs.declared.tree.Binary.{Binary}
 use Rattle.trees.specs.declared.tree.Binary.TheVariants as binary
-use Rattle.syntax.specs.Plain.{Plain, yes, no, nowhere, number, digits, named, paren, listed, prefixed, joined, bound, call, Plains, none, more}
+use Rattle.syntax.specs.Plain.{Plain, yes, no, nowhere, number, digits, named, paren, listed, prefixed, joined, bound, call, counted, tallied, Plains, none, more}
 use Rattle.syntax.specs.Parsing.{level_of, right_of, value, depth, depths}
 use Rattle.syntax.specs.Grammar.{bare, bares, spine, grab, IsText, AreTexts, opens, opens_each}
 use Rattle.syntax.specs.Items.{PlainItem, free, predicate, assumed, claimed, bare_item, IsItem, AreItems}
@@ -168,6 +168,17 @@ mutual
       )
   is_text (bound q sort xs t) all x = (x.0, is_text_in (within_parens all 0 t) (text all t) (is_text t all x.1))
   is_text (call f ts) all x = (x.0, are_texts ts all x.1)
+  is_text (counted t m r) all x =
+      let g = grab_operand all 9 t (omega arith) (grab_text all t) in
+      let a = number_again m x.1 in
+      let b = number_again r x.2 in (
+        is_text_in (within_parens all 9 t) (text all t) (is_text t all x.0),
+        spine_operand all 9 t (omega arith),
+        omega (arith, g),
+        omega (arith, a, x.1),
+        omega (arith, b, x.2),
+      )
+  is_text (tallied t d e) all x = absurd x
 
   are_texts : (ts : Plains) (all : Bool) → AreTrees ts → AreTexts (texts all ts)
   are_texts none all x = tt
@@ -195,6 +206,10 @@ mutual
       rw l (rw r refl)
   bare_text (bound q sort xs t) all x = ap (bound q sort xs) (bare_in (within_parens all 0 t) (text all t) ∙ bare_text t all x.1)
   bare_text (call f ts) all x = ap (call f) (bares_texts ts all x.1)
+  bare_text (counted t m r) all x =
+      let s = bare_in (within_parens all 9 t) (text all t) ∙ bare_text t all x.0 in
+      rw s (rw (number_again m x.1) (rw (number_again r x.2) refl))
+  bare_text (tallied t d e) all x = absurd x
 
   bares_texts : (ts : Plains) (all : Bool) → AreTrees ts → bares (texts all ts) ≡ ts
   bares_texts none all x = refl
@@ -213,6 +228,8 @@ mutual
   opens_text (joined b s t) all x = let h = opens_text s all x.0 in let i = opens_text t all x.1 in let j = opens_in (within_parens all (left_of b) s) (text all s) in let k = opens_in (within_parens all (right_of b) t) (text all t) in omega (arith, h, i, j, k)
   opens_text (bound q sort xs t) all x = let h = opens_text t all x.1 in let i = opens_in (within_parens all 0 t) (text all t) in omega (arith, h, i)
   opens_text (call f ts) all x = let h = opens_texts ts all x.1 in omega (arith, h)
+  opens_text (counted t m r) all x = let h = opens_text t all x.0 in let i = opens_in (within_parens all 9 t) (text all t) in omega (arith, h, i)
+  opens_text (tallied t d e) all x = absurd x
   opens_text _ all x = omega arith
 
   opens_texts : (ts : Plains) (all : Bool) → AreTrees ts → opens_each (texts all ts) ≤ 2 * depths ts

@@ -4,13 +4,14 @@ use Rattle.tokens.specs.declared.kind.Kind.{Kind}
 use Rattle.tokens.specs.declared.kind.Kind.TheVariants as kind
 use Rattle.trees.specs.declared.tree.Unary.TheVariants as unary
 use Rattle.trees.specs.declared.tree.Binary.{Binary}
+use Rattle.trees.specs.declared.tree.Binary.TheVariants as binary
 use Rattle.trees.specs.declared.tree.Sort.{Sort}
 use Rattle.trees.specs.declared.tree.Sort.TheVariants.{Place, Set}
 use Rattle.trees.specs.declared.tree.Quantifier.{Quantifier}
 use Rattle.trees.specs.declared.tree.Quantifier.TheVariants as quantifier
 use Rattle.tokens.specs.Words.{Word, word}
-use Rattle.syntax.specs.Plain.{Plain, yes, no, nowhere, number, digits, named, paren, listed, prefixed, joined, bound, call, Plains, none, more, sign_of, quantifier_of, colon, close, close_set, names, written, list, list_more}
-use Rattle.syntax.specs.Parsing.{Reader, ◌>>=◌, level_of, right_of, operator, begins, more_items, items, whole, quantified, operand, climb, parse, depth, depths, value, MOST, push}
+use Rattle.syntax.specs.Plain.{Plain, yes, no, nowhere, number, digits, named, paren, listed, prefixed, joined, bound, call, counted, tallied, Plains, none, more, sign_of, quantifier_of, colon, close, close_set, tally, names, written, list, list_more}
+use Rattle.syntax.specs.Parsing.{Reader, ◌>>=◌, level_of, right_of, operator, tail, begins, more_items, items, tally_at, whole, quantified, operand, climb, parse, depth, depths, value, MOST, push}
 use Rattle.syntax.specs.Grammar.{bare, bares, spine, grab, IsText, AreTexts, opens, opens_each}
 use Rattle.syntax.proofs.WrittenLaws.{Stops, lt_false, sign_is, sign_no_open, tight, loose, stops_tighter, longer, list_longer, names_at_longer, names_again, pushes, pushes_one}
 
@@ -38,6 +39,7 @@ no_close (prefixed unary.Max t) rest x = refl
 no_close (prefixed unary.IsEmpty t) rest x = refl
 no_close (joined b s t) rest x = no_close s (sign_of b ∷ written t rest) x.0
 no_close (bound q sort xs t) rest x = quantifier_no_close q sort _
+no_close (counted t m r) rest x = absurd x
 no_close _ rest x = refl
 
 -- where no operator follows that binds that tight, nothing is taken
@@ -75,6 +77,10 @@ items_again t ts a each n c k d rest h i s x xs o e le =
     let p = parsed t a n c 0 (list_more ts (word k d ∷ rest)) x (omega (arith, o)) (omega (arith, e)) (omega arith) (stops_list ts (grab t) (word k d ∷ rest) s) (stops_list ts 0 (word k d ∷ rest) s).0 le in
     let q = each n c n (more (bare t) none) (word k d ∷ rest) xs (omega (arith, o)) (omega (arith, e)) s i (omega (arith, le, longer_t)) (omega (arith, le, longer_t)) in
     rw p (rw q (rw h (ap (λ ys. Ok (ys, rest)) (pushes_one (bare t) (bares ts)))))
+
+-- what stands behind a set whose places are counted is read
+tally_again : (d e : List ℕ) (rest : List Word) → value 0 d ≤ MOST → value 0 e ≤ MOST → tally_at (tail (tally d e rest)) ≡ Ok ((value 0 d, value 0 e), rest)
+tally_again d e rest h i = rw (lt_false MOST (value 0 d) h) (rw (lt_false MOST (value 0 e) i) refl)
 
 -- behind the left operand the operator is taken
 joins : (p : Reader) (k m : ℕ) (b : Binary) (left : Plain) (ws : List Word) (t : Plain) (rest : List Word) → length (sign_of b ∷ ws) ≤ k → length rest ≤ length ws → m ≤ level_of b → p (right_of b) ws ≡ Ok (t, rest) → depth (joined b left t) ≤ MOST → (j : ℕ) × (length rest ≤ j) × (climb p k m left (sign_of b ∷ ws) ≡ climb p j m (joined b left t) rest)
@@ -133,6 +139,12 @@ mutual
       let p = items_again t ts (again t) (each_again ts) n c kind.Close (41 ∷ []) rest refl refl (refl, refl) x.1.0 x.1.1 o (omega (arith, d)) (omega (arith, le)) in
       let e = no_close t (list_more ts (close ∷ rest)) x.1.0 in
       done n c m (written (call f (more t ts)) rest) (bare (call f (more t ts))) rest (rw x.0 (rw e (rw p (whole_is (bare (call f (more t ts))) rest d)))) (omega (arith, le, h))
+  again (counted t i j) n c m rest x o d l s le = absurd x
+  again (tallied t i j) n c m rest x o d l s le =
+      let h = longer t (tally i j rest) in
+      let p = parsed t (again t) n c 9 (tally i j rest) x.0 (omega (arith, o)) (omega (arith, d)) x.1 (loose (grab t) binary.Or x.2, refl) refl (omega (arith, le)) in
+      let q = tally_again i j rest x.3 x.4 in
+      done n c m (written (tallied t i j) rest) (bare (tallied t i j)) rest (rw p (rw q (whole_is (bare (tallied t i j)) rest d))) (omega (arith, le, h))
 
   pub each_again : (ts : Plains) → EachAgain ts
   each_again none n c zero acc rest x o d s e le lk = refl

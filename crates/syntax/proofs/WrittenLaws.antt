@@ -5,7 +5,7 @@ use Rattle.trees.specs.declared.tree.Unary.TheVariants as unary
 use Rattle.trees.specs.declared.tree.Binary.{Binary}
 use Rattle.trees.specs.declared.tree.Binary.TheVariants as binary
 use Rattle.tokens.specs.Words.{Word, word}
-use Rattle.syntax.specs.Plain.{Plain, number, paren, listed, prefixed, joined, bound, call, Plains, none, more, sign_of, colon, close, close_set, names, names_more, written, list, list_more}
+use Rattle.syntax.specs.Plain.{Plain, number, paren, listed, prefixed, joined, bound, call, counted, tallied, Plains, none, more, tally, sign_of, colon, close, close_set, names, names_more, written, list, list_more}
 use Rattle.syntax.specs.Parsing.{level_of, binary_of, if_tight, operator, begins, more_names, names_at, push}
 use Rattle.syntax.specs.Grammar.{AreAscii, AreNames}
 
@@ -82,6 +82,8 @@ mutual
   longer (joined b s t) rest = let h = longer t rest in let i = longer s (sign_of b ∷ written t rest) in omega arith
   longer (bound q sort xs t) rest = let h = longer t rest in let i = names_at_longer xs (colon ∷ written t rest) in omega arith
   longer (call f ts) rest = let h = list_longer ts (close ∷ rest) in omega arith
+  longer (counted t m r) rest = omega arith
+  longer (tallied t d e) rest = let h = longer t (tally d e rest) in omega arith
   longer _ rest = omega arith
 
   pub list_longer : (ts : Plains) (rest : List Word) → length rest ≤ length (list ts rest)

@@ -1,7 +1,7 @@
 -- Which trees are written as words, with which parentheses, and what they are without them.
 use Rattle.std.specs.Prelude.{ℕ, suc, ◌≡◌, ◌<◌, ◌≤◌, min, max, List, [], ◌∷◌, true}
 use Rattle.trees.specs.declared.tree.Unary.TheVariants as unary
-use Rattle.syntax.specs.Plain.{Plain, yes, no, nowhere, number, digits, named, paren, listed, prefixed, joined, bound, call, Plains, none, more}
+use Rattle.syntax.specs.Plain.{Plain, yes, no, nowhere, number, digits, named, paren, listed, prefixed, joined, bound, call, counted, tallied, Plains, none, more}
 use Rattle.syntax.specs.Parsing.{level_of, right_of, value, MOST, ascii}
 
 -- without parentheses, and with numbers for their digits
@@ -14,6 +14,8 @@ abbrev mutual
   bare (joined b s t) = joined b (bare s) (bare t)
   bare (bound q sort xs t) = bound q sort xs (bare t)
   bare (call f ts) = call f (bares ts)
+  bare (counted t m r) = counted (bare t) m r
+  bare (tallied t d e) = counted (bare t) (value 0 d) (value 0 e)
   bare t = t
 
   pub bares : Plains → Plains
@@ -42,7 +44,7 @@ abbrev pub AreNames : List (List ℕ) → Type 0
 AreNames [] = ⊥
 AreNames (x ∷ xs) = (ascii x ≡ true) × AreAscii xs
 
--- each operand binds as tight as it has to, or stands in parentheses; sets and quantifiers have something in them; numbers are written as digits
+-- each operand binds as tight as it has to, or stands in parentheses; a set whose places are counted leaves alone the sign behind it; sets and quantifiers have something in them; numbers are written as digits
 abbrev mutual
   pub IsText : Plain → Type 0
   IsText yes = Unit {0}
@@ -60,6 +62,8 @@ abbrev mutual
   IsText (joined b s t) = IsText s × (level_of b ≤ spine s) × (level_of b < grab s) × IsText t × (right_of b ≤ spine t)
   IsText (bound q sort xs t) = AreNames xs × IsText t
   IsText (call f ts) = (ascii f ≡ true) × AreTexts ts
+  IsText (counted t m r) = ⊥
+  IsText (tallied t d e) = IsText t × (9 ≤ spine t) × (3 < grab t) × (value 0 d ≤ MOST) × (value 0 e ≤ MOST)
 
   pub AreSome : Plains → Type 0
   AreSome none = ⊥
@@ -78,6 +82,7 @@ abbrev mutual
   opens (joined b s t) = max (opens s) (suc (opens t))
   opens (bound q sort xs t) = suc (opens t)
   opens (call f ts) = opens_each ts
+  opens (tallied t d e) = suc (opens t)
   opens _ = 0
 
   pub opens_each : Plains → ℕ

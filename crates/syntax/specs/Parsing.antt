@@ -1,5 +1,6 @@
 -- How words are read as a tree.
 use Rattle.std.specs.Prelude.{ℕ, zero, suc, ◌+◌, ◌*◌, ◌-◌, min, max, List, [], ◌∷◌, ◌++◌, Bool, true, false, ◌&&◌, if◌then◌else◌, nat_lt, nat_le, Option, Some, None, Result, Ok, Err}
+use Rattle.std.specs.Str.{bytes_eq}
 use denote.Enum.Bare.{sameb}
 use Rattle.tokens.specs.contracts.kind.Kind.{the_type}
 use Rattle.tokens.specs.declared.kind.Kind.{Kind}
@@ -13,7 +14,7 @@ use Rattle.trees.specs.declared.tree.Sort.TheVariants.{Place, Set}
 use Rattle.trees.specs.declared.tree.Quantifier.{Quantifier}
 use Rattle.trees.specs.declared.tree.Quantifier.TheVariants as quantifier
 use Rattle.tokens.specs.Words.{Word, word}
-use Rattle.syntax.specs.Plain.{Plain, yes, no, nowhere, number, named, listed, prefixed, joined, bound, call, Plains, none, more}
+use Rattle.syntax.specs.Plain.{Plain, yes, no, nowhere, number, named, listed, prefixed, joined, bound, call, counted, Plains, none, more, mod_bytes}
 
 -- why words are not read: they are of no such form, or what they say is larger than may be
 pub data Stop : Type 0 where
@@ -114,6 +115,7 @@ abbrev mutual
   depth (joined b s t) = suc (max (depth s) (depth t))
   depth (bound q sort xs t) = suc (depth t)
   depth (call f ts) = suc (depths ts)
+  depth (counted t m r) = suc (depth t)
   depth _ = 1
 
   pub depths : Plains → ℕ
@@ -220,6 +222,39 @@ empty_at p ws = if begins kind.Open ws then (do
   t ← paren_at p (tail ws)
   whole (prefixed unary.IsEmpty t.0) t.1) else Ok (nowhere, ws)
 
+-- whether a word is `mod`
+abbrev pub is_mod : Kind → List ℕ → Bool
+is_mod k d = sameb the_type k kind.Name && bytes_eq d mod_bytes
+
+-- the words behind `mod`
+abbrev pub behind_mod : List Word → Result (List Word) Stop
+behind_mod [] = Err wrong
+behind_mod (word k d ∷ ws) = if is_mod k d then Ok ws else Err wrong
+
+-- a number
+abbrev pub number_at : List Word → Read ℕ
+number_at [] = Err wrong
+number_at (word k d ∷ ws) = if sameb the_type k kind.Number then (do
+  v ← number_of d
+  Ok (v, ws)) else Err wrong
+
+-- behind a set whose places are counted: of which number this is a multiple, and what besides
+abbrev pub tally_at : List Word → Read (ℕ × ℕ)
+tally_at ws = do
+  a ← behind_mod ws
+  m ← number_at a
+  b ← behind kind.Equal m.1
+  r ← number_at b
+  Ok ((m.0, r.0), r.1)
+
+-- what is said of the number of a set's places, from behind the sign before it
+abbrev pub count_at : Reader → List Word → Read Plain
+count_at p ws = do
+  t ← p 9 ws
+  a ← behind kind.Or t.1
+  c ← tally_at a
+  whole (counted t.0 c.0.0 c.0.1) c.1
+
 -- what an operator stands between, from its first token
 abbrev pub operand_of : Reader → ℕ → Kind → List ℕ → List Word → Read Plain
 operand_of p n kind.True d ws = Ok (yes, ws)
@@ -233,6 +268,7 @@ operand_of p n kind.Name d ws = do
 operand_of p n kind.Empty d ws = empty_at p ws
 operand_of p n kind.Open d ws = paren_at p ws
 operand_of p n kind.OpenSet d ws = set_at p n ws
+operand_of p n kind.Or d ws = count_at p ws
 operand_of p n kind.Not d ws = prefix p unary.Not 6 ws
 operand_of p n kind.Min d ws = prefix p unary.Min 9 ws
 operand_of p n kind.Max d ws = prefix p unary.Max 9 ws

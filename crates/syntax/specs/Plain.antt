@@ -11,7 +11,7 @@ use Rattle.trees.specs.declared.tree.Sort.TheVariants.{Place, Set}
 use Rattle.trees.specs.declared.tree.Quantifier.{Quantifier}
 use Rattle.trees.specs.declared.tree.Quantifier.TheVariants as quantifier
 
--- `paren` is an expression in parentheses, `digits` a number as it is written
+-- `paren` is an expression in parentheses, `digits` a number as it is written; `counted` says of a set that the number of its places is a multiple of the first number and the second besides, `tallied` the same with the numbers as they are written
 mutual
   pub data Plain : Type 0 where
     yes : Plain
@@ -26,6 +26,8 @@ mutual
     joined : Binary → Plain → Plain → Plain
     bound : Quantifier → Sort → List (List ℕ) → Plain → Plain
     call : List ℕ → Plains → Plain
+    counted : Plain → ℕ → ℕ → Plain
+    tallied : Plain → List ℕ → List ℕ → Plain
 
   pub data Plains : Type 0 where
     none : Plains
@@ -81,6 +83,18 @@ close_set = word kind.CloseSet (125 ∷ [])
 abbrev pub empty_word : Word
 empty_word = word kind.Empty (101 ∷ 109 ∷ 112 ∷ 116 ∷ 121 ∷ [])
 
+-- the sign before a set whose places are counted, and behind it
+abbrev pub bar : Word
+bar = word kind.Or (124 ∷ [])
+
+-- `mod`, which stands for a name elsewhere
+abbrev pub mod_bytes : List ℕ
+mod_bytes = 109 ∷ 111 ∷ 100 ∷ []
+
+-- what is said of the number of a set's places, behind the set, and then other words
+abbrev pub tally : List ℕ → List ℕ → List Word → List Word
+tally d e rest = bar ∷ word kind.Name mod_bytes ∷ word kind.Number d ∷ sign_of binary.Equal ∷ word kind.Number e ∷ rest
+
 -- names with commas between them, and then other words
 abbrev pub names_more : List (List ℕ) → List Word → List Word
 names_more [] rest = rest
@@ -108,6 +122,8 @@ abbrev mutual
   written (joined b s t) rest = written s (sign_of b ∷ written t rest)
   written (bound q sort xs t) rest = quantifier_of q sort ∷ names xs (colon ∷ written t rest)
   written (call f ts) rest = word kind.Name f ∷ open_ ∷ list ts (close ∷ rest)
+  written (counted t m r) rest = rest
+  written (tallied t d e) rest = bar ∷ written t (tally d e rest)
 
   pub list : Plains → List Word → List Word
   list none rest = rest

@@ -3,7 +3,7 @@ use Rattle.std.specs.Prelude.{ℕ, ◌≡◌, ◌≤◌, ◌&&◌, ◌||◌, Boo
 use Rattle.trees.specs.declared.tree.Unary.TheVariants as unary
 use Rattle.trees.specs.declared.tree.Binary.{Binary}
 use Rattle.trees.specs.declared.tree.Binary.TheVariants as binary
-use Rattle.syntax.specs.Plain.{Plain, yes, no, nowhere, number, digits, named, paren, listed, prefixed, joined, bound, call, Plains, none, more}
+use Rattle.syntax.specs.Plain.{Plain, yes, no, nowhere, number, digits, named, paren, listed, prefixed, joined, bound, call, counted, tallied, Plains, none, more}
 use Rattle.syntax.specs.Parsing.{level_of, right_of, depth, MOST, ascii}
 use Rattle.syntax.specs.Grammar.{AreNames}
 use Rattle.syntax.specs.Items.{PlainItem, free, predicate, assumed, claimed, AreParameters}
@@ -42,6 +42,7 @@ abbrev mutual
   text all (joined b s t) = joined b (enclosed (within_parens all (left_of b) s) (text all s)) (enclosed (within_parens all (right_of b) t) (text all t))
   text all (bound q sort xs t) = bound q sort xs (enclosed (within_parens all 0 t) (text all t))
   text all (call f ts) = call f (texts all ts)
+  text all (counted t m r) = tallied (enclosed (within_parens all 9 t) (text all t)) (decimal m) (decimal r)
   text all t = t
 
   pub texts : Bool → Plains → Plains
@@ -63,6 +64,8 @@ abbrev mutual
   IsTree (joined b s t) = IsTree s × IsTree t
   IsTree (bound q sort xs t) = AreNames xs × IsTree t
   IsTree (call f ts) = (ascii f ≡ true) × AreTrees ts
+  IsTree (counted t m r) = IsTree t × (m ≤ MOST) × (r ≤ MOST)
+  IsTree (tallied t d e) = ⊥
 
   pub AreSomeTrees : Plains → Type 0
   AreSomeTrees none = ⊥

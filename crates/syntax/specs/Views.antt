@@ -3,13 +3,13 @@ use Rattle.std.specs.Prelude.{ℕ, ◌≡◌, List, [], ◌∷◌, map, Result, 
 use Rattle.trees.specs.declared.tree.Name.{Name}
 use Rattle.trees.specs.Tree.{Expr}
 use Rattle.trees.specs.declared.tree.ExprKind.{ExprKind}
-use Rattle.trees.specs.declared.tree.ExprKind.TheVariants.{True, False, Empty, Number, Named, Listed', Unary', Binary', Bound', Call'}
+use Rattle.trees.specs.declared.tree.ExprKind.TheVariants.{True, False, Empty, Number, Named, Listed', Unary', Binary', Bound', Call', Count'}
 use Rattle.trees.specs.declared.tree.ExprKind.{Row_of-ExprKind-Listed-0-2 as Exprs, end_of-ExprKind-Listed-0-2 as end, more_of-ExprKind-Listed-0-2 as more_of}
 use Rattle.tokens.specs.declared.token.NoToken.{NoToken}
 use Rattle.tokens.specs.declared.token.NoToken.TheVariants as no_token
 use Rattle.syntax.specs.declared.fault.Fault.{Fault}
 use Rattle.syntax.specs.declared.fault.Fault.TheVariants.{Expected, Byte, LargeNumber, Deep, Memory}
-use Rattle.syntax.specs.Plain.{Plain, yes, no, nowhere, number, named, listed, prefixed, joined, bound, call, Plains, none, more}
+use Rattle.syntax.specs.Plain.{Plain, yes, no, nowhere, number, named, listed, prefixed, joined, bound, call, counted, Plains, none, more}
 use Rattle.syntax.specs.Parsing.{Stop, wrong, beyond}
 
 abbrev pub names_of : List Name → List (List ℕ)
@@ -28,6 +28,7 @@ abbrev mutual
   view (Binary' b _ x _ _ y _) = joined b (view x) (view y)
   view (Bound' q sort xs _ x _) = bound q sort (names_of xs.items) (view x)
   view (Call' f shape all) = call (string_bytes f.text) (views all)
+  view (Count' _ x _ m r) = counted (view x) m.kind r.kind
 
   pub views : {m : _} → Exprs m → Plains
   views end = none

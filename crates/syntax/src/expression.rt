@@ -4,14 +4,15 @@
 ghost use Rattle.std.specs.Prelude.{◌≡◌, ℕ, ◌+◌, ◌<◌, ◌≤◌, ◌∷◌, length, max, IfOk, string_bytes};
 ghost use Rattle.tokens.specs.declared.kind.Kind.TheVariants as kind;
 ghost use Rattle.syntax.specs.Plain.{joined, bound, listed, call, none};
-ghost use Rattle.syntax.specs.Parsing.{parse, operand, operand_of, prefix, quantified, set_at, items, named_at, arguments, paren_at, empty_at, within, lowest_of, depth, depths};
+ghost use Rattle.syntax.specs.Parsing.{parse, operand, operand_of, prefix, quantified, set_at, items, named_at, arguments, paren_at, empty_at, count_at, within, lowest_of, depth, depths};
 ghost use Rattle.tokens.specs.Words.{words};
 ghost use Rattle.syntax.specs.Views.{Gives, view, view_all};
 
 use crate::fault::{Fault, Wanted};
-use crate::operators::tightness_of;
+use crate::operators::{EXTREME, tightness_of};
 use crate::part::{Listing, Part, call_of, called_alone, joined, leaf, lowest, set_of, whole};
 use crate::source::{Source, front, name, names, number, operator, span, token};
+use crate::tally::{counted, tally_at};
 use tokens::kind::Kind;
 use tokens::token::Token;
 use trees::position::Span;
@@ -75,6 +76,7 @@ fn operand<'a>(
             Ok((inside, rest))
         }
         Kind::OpenSet => listed(source, at, rest, calls),
+        Kind::Or => count(source, at, rest, calls),
         Kind::Name => {
             let (name, rest) = name(source, tokens)?;
             named(source, name, rest, calls)
@@ -196,6 +198,25 @@ fn listed<'a>(
 {
     let (list, rest) = list(source, tokens, calls, Kind::CloseSet)?;
     set_of(source, at, list, rest)
+}
+
+// `|S| mod m = r`, from behind the sign before the set, which stands at `at`.
+#[cycle(reading)]
+fn count<'a>(
+    source: &Source<'_>,
+    at: Span,
+    tokens: &'a [Token],
+    calls: u32,
+) -> Result<(Part, &'a [Token]), Fault>
+    requires known { length tokens.now ≤ source.now.count }
+    ensures gives { Gives (λ r. (view r.0.expr.value.kind, words source.now.text.now r.1.now)) result (count_at (parse source.now.count calls) (words source.now.text.now tokens.now)) }
+    ensures depth { IfOk result (λ r. r.0.depth ≡ depth (view r.0.expr.value.kind)) }
+    ensures less { IfOk result (λ r. length r.1.now < length tokens.now) }
+{
+    let (set, rest) = expression(source, tokens, calls, EXTREME + 1)?;
+    let (_, rest) = token(source, rest, Kind::Or, Wanted::End(Kind::Or))?;
+    let (tally, rest) = tally_at(source, rest)?;
+    counted(source, at, set, tally, rest)
 }
 
 // What stands behind a name: nothing, or a predicate's arguments.

@@ -16,6 +16,7 @@ pub enum Wanted {
     Item,
     Operand,
     Sort,
+    Modulo,
     More(Kind),
     End(Kind),
     Token(Kind),
@@ -64,6 +65,7 @@ fn put_wanted(out: &mut String, wanted: Wanted) -> Result<(), AllocError> {
         }
         Wanted::Operand => out.push_str("a formula or a term"),
         Wanted::Sort => out.push_str("`var1` or `var2`"),
+        Wanted::Modulo => out.push_str("`mod`"),
         Wanted::Token(kind) => out.push_str(spelling(kind)),
         Wanted::More(kind) => {
             out.push_str("`,` or ")?;

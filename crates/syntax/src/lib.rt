@@ -8,3 +8,4 @@ pub mod operators;
 pub mod parse;
 mod part;
 mod source;
+mod tally;

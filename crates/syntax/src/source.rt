@@ -1,6 +1,6 @@
 // A text whose tokens are read, and what the tokens that are left begin with. Each function gives what it read and the tokens behind it.
 ghost use Rattle.std.specs.Prelude.{◌≡◌, ℕ, ◌+◌, ◌<◌, ◌≤◌, true, false, length, IfOk, IfSome, MatchOption, Some, None, string_bytes};
-ghost use Rattle.syntax.specs.Parsing.{begins, behind, tail, ascii, value, number_of, name, operator, names_at};
+ghost use Rattle.syntax.specs.Parsing.{begins, behind, tail, ascii, value, number_of, number_at, is_mod, behind_mod, name, operator, names_at};
 ghost use Rattle.tokens.specs.Words.{bytes_of, words};
 ghost use Rattle.syntax.specs.Views.{Gives, names_of};
 
@@ -11,7 +11,7 @@ use std::str::from_utf8;
 use tokens::kind::Kind;
 use tokens::token::Token;
 use trees::position::Span;
-use trees::tree::{Binary, Name};
+use trees::tree::{Binary, Name, Spanned};
 
 /// The largest number.
 pub const MOST_NUMBER: u32 = 1000;
@@ -170,6 +170,42 @@ pub fn number(source: &Source<'_>, token: Token) -> Result<u32, Fault>
         return Err(Fault::LargeNumber(token.span));
     }
     Ok(n)
+}
+
+/// The number that the tokens begin with.
+pub fn number_at<'a>(
+    source: &Source<'_>,
+    tokens: &'a [Token],
+) -> Result<(Spanned<u32>, &'a [Token]), Fault>
+    ensures gives { Gives (λ r. (r.0.kind, words source.now.text.now r.1.now)) result (number_at (words source.now.text.now tokens.now)) }
+    ensures less { IfOk result (λ r. length r.1.now + 1 ≡ length tokens.now) }
+{
+    match tokens {
+        [token, rest @ ..] if token.kind == Kind::Number => {
+            let kind = number(source, *token)?;
+            let span = token.span;
+            Ok((Spanned { kind, span }, rest))
+        }
+        _ => Err(Fault::Expected(Wanted::Token(Kind::Number), span(source, tokens))),
+    }
+}
+
+// Whether a token is `mod`, which is a name elsewhere.
+fn is_mod(text: &[u8], token: Token) -> bool
+    ensures { result ≡ is_mod token.kind (bytes_of text.now token) }
+{
+    token.kind == Kind::Name && bytes(text, token) == b"mod".as_slice()
+}
+
+/// The tokens behind `mod`, where it has to stand.
+pub fn behind_mod<'a>(source: &Source<'_>, tokens: &'a [Token]) -> Result<&'a [Token], Fault>
+    ensures gives { Gives (λ r. words source.now.text.now r.now) result (behind_mod (words source.now.text.now tokens.now)) }
+    ensures less { IfOk result (λ r. length r.now + 1 ≡ length tokens.now) }
+{
+    match tokens {
+        [token, rest @ ..] if is_mod(source.text, *token) => Ok(rest),
+        _ => Err(Fault::Expected(Wanted::Modulo, span(source, tokens))),
+    }
 }
 
 /// The operator that the tokens begin with, if it binds at least as tight as `lowest`.

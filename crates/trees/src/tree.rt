@@ -69,6 +69,8 @@ pub enum ExprKind {
     Binary(Binary, Box<Expr>, Box<Expr>),
     Bound(Quantifier, Sort, Vec<Name>, Box<Expr>),
     Call(Name, Vec<Expr>),
+    /// `|S| mod m = r`: how many places the set S has is a multiple of m, and r besides. Behind the set stand m and r, each with its place.
+    Count(Box<Expr>, Spanned<u32>, Spanned<u32>),
 }
 
 /// A formula or a term: what it says, and where it stands.

@@ -1,7 +1,8 @@
 use Rattle.std.proofs.Common.{ℕ, List, ◌∷◌, ap, ◌∙◌}
+use Rattle.std.specs.Prelude.{decimal}
 use Rattle.tokens.specs.declared.kind.Kind.TheVariants as kind
 use Rattle.tokens.specs.Words.{Word, word}
-use Rattle.syntax.specs.Plain.{prefixed, joined, written, list, open_, close, open_set, close_set, empty_word, sign_of}
+use Rattle.syntax.specs.Plain.{prefixed, joined, counted, written, list, open_, close, open_set, close_set, empty_word, sign_of, bar, tally}
 use Rattle.trees.specs.Tree.{Expr}
 use Rattle.trees.specs.declared.tree.Unary.TheVariants as unary
 use Rattle.syntax.specs.Views.{view, view_all}
@@ -47,6 +48,25 @@ put-returns-in_ok-word-in-IsEmpty t c =
     same_ok c.put_enclosed.result c.args.writer.now c.put_enclosed.new.writer (part c.deref-in-IsEmpty.result.now) (λ r. written (text a (view c.args.expr.now.kind)) r)
     (λ r. ap (λ x. part x r) c.deref-in-IsEmpty.ensures ∙ of_view a c.args.expr.now.kind (prefixed unary.IsEmpty (view c.in-Unary.inside.value.kind)) (ap view c.in-Unary.is ∙ ap (λ u. prefixed u (view c.in-Unary.inside.value.kind)) c.in-IsEmpty.is) r)
     (then_ok c.put_enclosed.result c.args.writer.now c.word-in-IsEmpty.new.self c.put_enclosed.new.writer (λ r. empty_word ∷ r) (λ r. open_ ∷ written (text a (view c.deref-in-IsEmpty.result.now.kind)) (close ∷ r)) c.in_ok-word-in-IsEmpty.ensures c.put_enclosed.ensures)
+
+pub put-returns-in_ok-put_operand-in-Count : goal.put-returns-in_ok-put_operand-in-Count
+put-returns-in_ok-put_operand-in-Count t c =
+    let a = is_all c.args.style in
+    let set = c.in-Count.set.value in
+    let m = c.in-Count.modulus.kind in
+    let n = c.in-Count.rest.kind in
+    let operand = λ (x : Expr) (r : List Word). written (enclosed (within_parens a 9 (view x.kind)) (text a (view x.kind))) r in
+    let counts = λ (r : List Word). tally (decimal m) (decimal n) r in
+    let old = c.args.writer.now in
+    let first = c.word-in-Count.new.self in
+    let second = c.put_operand-in-Count.new.writer in
+    let last = c.put_tally.new.writer in
+    same_ok c.put_tally.result old last (λ r. bar ∷ operand set (counts r)) (λ r. written (text a (view c.args.expr.now.kind)) r)
+    (of_view a c.args.expr.now.kind (counted (view set.kind) m n) (ap view c.in-Count.is))
+    (then_ok c.put_tally.result old second last (λ r. bar ∷ operand set r) counts
+    (both old first second (λ r. bar ∷ r) (operand set) c.in_ok-word-in-Count.ensures
+    (same first second (operand c.deref-in-Count.result.now) (operand set) (λ r. ap (λ x. operand x r) c.deref-in-Count.ensures) c.in_ok-put_operand-in-Count.ensures))
+    c.put_tally.ensures)
 
 pub put-returns-in_ok-word-in-Binary : goal.put-returns-in_ok-word-in-Binary
 put-returns-in_ok-word-in-Binary t c =

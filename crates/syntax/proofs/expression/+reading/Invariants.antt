@@ -23,6 +23,9 @@ decreases-bound l = 5 * l.calls + 1
 abbrev pub decreases-listed : goal.decreases-listed
 decreases-listed l = 5 * l.calls + 2
 
+abbrev pub decreases-count : goal.decreases-count
+decreases-count l = 5 * l.calls + 1
+
 abbrev pub decreases-arguments : goal.decreases-arguments
 decreases-arguments l = 5 * l.calls + 2
 
