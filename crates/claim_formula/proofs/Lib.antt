@@ -2,5 +2,6 @@
 pub mod StandingLaws
 pub mod BindersLaws
 pub mod PointsLaws
+pub mod CountingLaws
 pub mod TellingLaws
 pub mod LyingLaws

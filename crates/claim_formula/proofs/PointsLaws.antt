@@ -3,12 +3,13 @@ use Rattle.std.proofs.Common.{◌≡◌, ℕ, suc, ◌<◌, Bool, true, false, c
 use mathlib.Core.Bool.{true≢false}
 use Rattle.std.proofs.lemmas.Bool.Decides.{eqb_tells}
 use Rattle.words.specs.Words.{Sets, sets}
-use Rattle.claims.specs.Claims.{within, single, next, before, has}
+use Rattle.claims.specs.Claims.{within, single, next, before, Holds, has}
 use Rattle.kinds.specs.Relations.{Only}
 use Rattle.claims.specs.Places.{one}
 use Rattle.claims.proofs.PlacesLaws.{has_one, one_has}
 use Rattle.formulas.specs.declared.formula.Formula.{Formula}
 use Rattle.formulas.specs.Meaning.{Env, Meaning, with_place}
+use Rattle.translation.proofs.Opened.{within_holds, single_holds, next_holds, before_holds, within_itself}
 use Rattle.claim_formula.specs.Saying.{Stand, Means, Tells, Point}
 use Rattle.claim_formula.proofs.StandingLaws.{eq_is, is_eq, at_place, at_group, place_only}
 
@@ -76,39 +77,47 @@ pair_says σ e v x y R s = (
 pub single_tells : (σ : ℕ → Bool) (x : ℕ) → Tells σ (Point (σ x) x (λ e. Unit {0})) (single x)
 single_tells σ x w e s =
     let p = point_says σ e (sets w) x (λ g. Unit {0}) s in
-    (λ m. (let (i, o, t) = p.0 m in (i, o)), λ h. p.1 (h.0, h.1, tt))
+    let q = single_holds x (sets w) in
+    (λ m. (let (i, o, t) = p.0 m in q.1 (i, o)), λ h. (let (i, o) = q.0 h in p.1 (i, o, tt)))
 
 pub next_tells : (σ : ℕ → Bool) (x y : ℕ) → Tells σ (Point (σ x) x (Point (σ y) y (λ g. g.places y ≡ suc (g.places x)))) (next x y)
 next_tells σ x y w e s =
     let p = pair_says σ e (sets w) x y (λ i j. j ≡ suc i) s in
-    (λ m. (let (i, j, o, k, r) = p.0 m in (i, o, subst (Only (sets w) y) r k)), λ h. p.1 (h.0, suc h.0, h.1, h.2, refl))
+    let q = next_holds x y (sets w) in
+    (λ m. (let (i, j, o, k, r) = p.0 m in q.1 (i, o, subst (Only (sets w) y) r k)), λ h. (let (i, o, k) = q.0 h in p.1 (i, suc i, o, k, refl)))
 
 pub before_tells : (σ : ℕ → Bool) (x y : ℕ) → Tells σ (Point (σ x) x (Point (σ y) y (λ g. g.places x < g.places y))) (before x y)
-before_tells σ x y w e s = pair_says σ e (sets w) x y (λ i j. i < j) s
+before_tells σ x y w e s =
+    let p = pair_says σ e (sets w) x y (λ i j. i < j) s in
+    let q = before_holds x y (sets w) in
+    (λ m. q.1 (p.0 m), λ h. p.1 (q.0 h))
+
+pub itself_tells : (σ : ℕ → Bool) (x y : ℕ) → x ≡ y → Tells σ (λ e. Unit {0}) (within x y)
+itself_tells σ x y q w e s = (λ t. subst (λ z. Holds (within x z) (sets w)) q (within_itself x (sets w)), λ h. tt)
 
 pub same_tells : (σ : ℕ → Bool) (x y : ℕ) → σ x ≡ true → σ y ≡ true → Tells σ (λ e. e.places x ≡ e.places y) (within x y)
 same_tells σ x y p q w e s = (
-  λ m i h. at_place σ e (sets w) y q s i ∙ eq_is i (e.places y) ((place_only σ e (sets w) x p s).1 i h ∙ m),
-  λ h. (place_only σ e (sets w) y q s).1 (e.places x) (h (e.places x) (place_only σ e (sets w) x p s).0),
+  λ m. (within_holds x y (sets w)).1 (λ i h. at_place σ e (sets w) y q s i ∙ eq_is i (e.places y) ((place_only σ e (sets w) x p s).1 i h ∙ m)),
+  λ h. (place_only σ e (sets w) y q s).1 (e.places x) ((within_holds x y (sets w)).0 h (e.places x) (place_only σ e (sets w) x p s).0),
 )
 
 pub in_tells : (σ : ℕ → Bool) (x y : ℕ) → σ x ≡ true → σ y ≡ false → Tells σ (λ e. has (e.groups y) (e.places x) ≡ true) (within x y)
 in_tells σ x y p q w e s = (
-  λ m i h. subst (λ z. sets w y z ≡ true) (sym ((place_only σ e (sets w) x p s).1 i h)) (at_group σ e (sets w) y q s (e.places x) ∙ m),
-  λ h. sym (at_group σ e (sets w) y q s (e.places x)) ∙ h (e.places x) (place_only σ e (sets w) x p s).0,
+  λ m. (within_holds x y (sets w)).1 (λ i h. subst (λ z. sets w y z ≡ true) (sym ((place_only σ e (sets w) x p s).1 i h)) (at_group σ e (sets w) y q s (e.places x) ∙ m)),
+  λ h. sym (at_group σ e (sets w) y q s (e.places x)) ∙ (within_holds x y (sets w)).0 h (e.places x) (place_only σ e (sets w) x p s).0,
 )
 
 pub only_tells : (σ : ℕ → Bool) (x y : ℕ) → σ x ≡ false → σ y ≡ true → Tells σ (λ e. (i : ℕ) → has (e.groups x) i ≡ true → has (one (e.places y)) i ≡ true) (within x y)
 only_tells σ x y p q w e s = (
-  λ m i h. at_place σ e (sets w) y q s i ∙ eq_is i (e.places y) (one_has (e.places y) i (m i (sym (at_group σ e (sets w) x p s i) ∙ h))),
-  λ h i m. subst (λ z. has (one (e.places y)) z ≡ true) (sym (is_eq i (e.places y) (sym (at_place σ e (sets w) y q s i) ∙ h i (at_group σ e (sets w) x p s i ∙ m))))
-      (has_one (e.places y)),
+  λ m. (within_holds x y (sets w)).1 (λ i h. at_place σ e (sets w) y q s i ∙ eq_is i (e.places y) (one_has (e.places y) i (m i (sym (at_group σ e (sets w) x p s i) ∙ h)))),
+  λ h i m. (let g = (within_holds x y (sets w)).0 h i (at_group σ e (sets w) x p s i ∙ m) in
+      subst (λ z. has (one (e.places y)) z ≡ true) (sym (is_eq i (e.places y) (sym (at_place σ e (sets w) y q s i) ∙ g))) (has_one (e.places y))),
 )
 
 pub sub_tells : (σ : ℕ → Bool) (x y : ℕ) → σ x ≡ false → σ y ≡ false → Tells σ (λ e. (i : ℕ) → has (e.groups x) i ≡ true → has (e.groups y) i ≡ true) (within x y)
 sub_tells σ x y p q w e s = (
-  λ m i h. at_group σ e (sets w) y q s i ∙ m i (sym (at_group σ e (sets w) x p s i) ∙ h),
-  λ h i m. sym (at_group σ e (sets w) y q s i) ∙ h i (at_group σ e (sets w) x p s i ∙ m),
+  λ m. (within_holds x y (sets w)).1 (λ i h. at_group σ e (sets w) y q s i ∙ m i (sym (at_group σ e (sets w) x p s i) ∙ h)),
+  λ h i m. sym (at_group σ e (sets w) y q s i) ∙ (within_holds x y (sets w)).0 h i (at_group σ e (sets w) x p s i ∙ m),
 )
 
 -- of a point, what is the same of every place

@@ -3,13 +3,17 @@ use Rattle.std.proofs.Common.{◌≡◌, ℕ, Bool, true, false, cond, ◌==◌,
 use mathlib.Core.Bool.{false≢true}
 use Rattle.std.proofs.lemmas.Bool.Decides.{eqb_tells}
 use Rattle.words.specs.Words.{Sets}
-use Rattle.claims.specs.Claims.{C, within, single, next, before, not1, and1, some, Holds, has, put}
-use Rattle.kinds.specs.Relations.{Only}
+use Rattle.kinds.specs.Meaning.{related}
+use Rattle.kinds.specs.Relations.{Only, Relates}
+use Rattle.kinds.specs.declared.atom.Atom.TheVariants.{Related, Counted}
+use Rattle.kinds.specs.declared.relation.Relation.{Relation}
+use Rattle.kinds.specs.declared.relation.Relation.TheVariants.{Within, Single, Next, Before}
+use Rattle.claims.specs.Claims.{C, atom, not1, and1, some, Holds, has, put}
 use Rattle.claims.specs.Places.{one}
 use Rattle.claims.proofs.PlacesLaws.{has_one, one_has, put_same, only_put}
 use Rattle.formulas.specs.Meaning.{Env, with_place, with_group}
 use Rattle.formulas.proofs.SetsLaws.{or_true}
-use Rattle.claim_formula.specs.Forced.{forces}
+use Rattle.claim_formula.specs.Forced.{relation_forces, forces}
 use Rattle.claim_formula.specs.Saying.{Stand, bound}
 
 pub eq_is : (i j : ℕ) → i ≡ j → (i == j) ≡ true
@@ -56,17 +60,21 @@ place_only σ e v x q s = (
 )
 
 -- a claim that says so holds only where set x has one place
-pub forced : (x : ℕ) (c : C) (v : Sets) → forces x c ≡ true → Holds c v → (i : ℕ) × Only v x i
-forced x (within y z) v f h = absurd (false≢true f)
-forced x (single y) v f h = subst (λ z. (i : ℕ) × Only v z i) (sym (is_eq x y f)) h
-forced x (next y z) v f h = elim ((or_true (x == y) (x == z)).1 f) [
+relation_forced : (x : ℕ) (r : Relation) (v : Sets) → relation_forces x r ≡ true → Relates r v → (i : ℕ) × Only v x i
+relation_forced x (Within y z) v f h = absurd (false≢true f)
+relation_forced x (Single y) v f h = subst (λ z. (i : ℕ) × Only v z i) (sym (is_eq x y f)) h
+relation_forced x (Next y z) v f h = elim ((or_true (x == y) (x == z)).1 f) [
   | inl g ↦ (h.0, subst (λ t. Only v t h.0) (sym (is_eq x y g)) h.1)
   | inr g ↦ (suc h.0, subst (λ t. Only v t (suc h.0)) (sym (is_eq x z g)) h.2)
 ]
-forced x (before y z) v f h = elim ((or_true (x == y) (x == z)).1 f) [
+relation_forced x (Before y z) v f h = elim ((or_true (x == y) (x == z)).1 f) [
   | inl g ↦ (h.0, subst (λ t. Only v t h.0) (sym (is_eq x y g)) h.2)
   | inr g ↦ (h.1, subst (λ t. Only v t h.1) (sym (is_eq x z g)) h.3)
 ]
+
+pub forced : (x : ℕ) (c : C) (v : Sets) → forces x c ≡ true → Holds c v → (i : ℕ) × Only v x i
+forced x (atom (Related r)) v f h = relation_forced x r v f ((related r v).0 h)
+forced x (atom (Counted m)) v f h = absurd (false≢true f)
 forced x (not1 c) v f h = absurd (false≢true f)
 forced x (and1 c d) v f h = elim ((or_true (forces x c) (forces x d)).1 f) [ inl g ↦ forced x c v g h.0 | inr g ↦ forced x d v g h.1 ]
 forced x (some y c) v f h = elim (eqb_tells x y) [

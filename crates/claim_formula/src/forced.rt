@@ -1,19 +1,19 @@
 // Whether a claim holds only where a set has exactly one place.
 ghost use Rattle.std.specs.Prelude.{◌≡◌};
-ghost use Rattle.claims.specs.Atoms.{atom};
 ghost use Rattle.claims.specs.Trees.{said};
-ghost use Rattle.claim_formula.specs.Forced.{forces};
+ghost use Rattle.claim_formula.specs.Forced.{forces, relation_forces};
 
-use claims::atom::Atom;
 use claims::tree::Claim;
+use kinds::atom::Atom;
+use kinds::relation::Relation;
 
-fn atom_forces(x: usize, a: Atom) -> bool
-    ensures { result ≡ forces x (atom a) }
+fn relation_forces(x: usize, relation: Relation) -> bool
+    ensures { result ≡ relation_forces x relation }
 {
-    match a {
-        Atom::Within(_, _) => false,
-        Atom::Single(y) => x == y,
-        Atom::Next(y, z) | Atom::Before(y, z) => x == y || x == z,
+    match relation {
+        Relation::Within(_, _) => false,
+        Relation::Single(y) => x == y,
+        Relation::Next(y, z) | Relation::Before(y, z) => x == y || x == z,
     }
 }
 
@@ -22,7 +22,8 @@ pub fn forces(x: usize, claim: &Claim) -> bool
     ensures { result ≡ forces x (said claim.now) }
 {
     match claim {
-        Claim::Atom(a) => atom_forces(x, *a),
+        Claim::Atom(Atom::Related(relation)) => relation_forces(x, *relation),
+        Claim::Atom(Atom::Counted(_)) => false,
         Claim::Not(_) => false,
         Claim::And(c, d) => forces(x, c) || forces(x, d),
         Claim::Some(y, c) => x != *y && forces(x, c),

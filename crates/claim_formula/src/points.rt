@@ -1,17 +1,19 @@
 // Claims without parts as formulas. A set that is written as a place is that place; of another set it is said that it has one place, which gets the
 // set's number for a name: a place and a set of the same number are two names.
 ghost use Rattle.std.specs.Prelude.{◌≡◌, ℕ, suc, ◌<◌, true, IfOk};
-ghost use Rattle.claims.specs.Atoms.{atom};
-ghost use Rattle.claims.specs.Claims.{within as is_within, single as is_single, next as is_next, before as is_before, has};
+ghost use Rattle.claims.specs.Claims.{atom, within as is_within, single as is_single, next as is_next, before as is_before, multiple, has};
 ghost use Rattle.claims.specs.Places.{one};
 ghost use Rattle.formulas.specs.Meaning.{Meaning};
+ghost use Rattle.kinds.specs.declared.atom.Atom.TheVariants.{Related};
 ghost use Rattle.claim_formula.specs.Saying.{Means, Says, Point, is_place};
 
-use crate::connect::both;
+use crate::connect::{both, not};
 use crate::refusal::Refusal;
 use crate::scope::Scope;
-use claims::atom::Atom;
 use formulas::formula::{Formula, Group, Place};
+use kinds::atom::Atom;
+use kinds::multiple::{Multiple, Remainder};
+use kinds::relation::Relation;
 use std::alloc::{AllocError, Global};
 
 /// A set's number as a name's.
@@ -107,14 +109,45 @@ fn before(alloc: Global, x: u32, y: u32, scope: &Scope) -> Result<Box<Formula>, 
     Ok(whole)
 }
 
+fn of_relation(alloc: Global, relation: Relation, scope: &Scope) -> Result<Box<Formula>, Refusal>
+    ensures { IfOk result (λ r. Says (is_place scope.now) r.value (atom (Related relation))) }
+{
+    match relation {
+        Relation::Within(x, y) => Ok(within(alloc, number(x)?, number(y)?, scope)?),
+        Relation::Single(x) => Ok(single(alloc, number(x)?, scope)?),
+        Relation::Next(x, y) => Ok(next(alloc, number(x)?, number(y)?, scope)?),
+        Relation::Before(x, y) => Ok(before(alloc, number(x)?, number(y)?, scope)?),
+    }
+}
+
+// A set that is written as a place has one place: as many as the remainder says if that leaves 1.
+fn counted(
+    alloc: Global,
+    x: u32,
+    remainder: Remainder,
+    scope: &Scope,
+) -> Result<Box<Formula>, AllocError>
+    ensures { IfOk result (λ r. Says (is_place scope.now) r.value (multiple (record { remainder = remainder; set = x }))) }
+{
+    if !scope.is_place(x as usize) {
+        return Ok(Box::new(alloc, Formula::Count(Group::Named(x), remainder))?);
+    }
+    let always = Box::new(alloc, Formula::True)?;
+    if remainder.rest == 1 {
+        return Ok(always);
+    }
+    let never = not(alloc, always)?;
+    Ok(never)
+}
+
 /// The formula of a claim without parts.
 pub fn of_atom(alloc: Global, a: Atom, scope: &Scope) -> Result<Box<Formula>, Refusal>
     ensures { IfOk result (λ r. Says (is_place scope.now) r.value (atom a)) }
 {
     match a {
-        Atom::Within(x, y) => Ok(within(alloc, number(x)?, number(y)?, scope)?),
-        Atom::Single(x) => Ok(single(alloc, number(x)?, scope)?),
-        Atom::Next(x, y) => Ok(next(alloc, number(x)?, number(y)?, scope)?),
-        Atom::Before(x, y) => Ok(before(alloc, number(x)?, number(y)?, scope)?),
+        Atom::Related(relation) => of_relation(alloc, relation, scope),
+        Atom::Counted(Multiple { remainder, set }) => {
+            Ok(counted(alloc, number(set)?, remainder, scope)?)
+        }
     }
 }

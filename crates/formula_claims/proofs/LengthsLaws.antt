@@ -15,7 +15,7 @@ use Rattle.formulas.specs.declared.formula.Group.TheVariants.{Named as group, Em
 use Rattle.formulas.specs.declared.formula.Formula.TheVariants.{True, Same, Less, In, Sub, Count, Not', And', Or', Implies', Some1', All1', Some2', All2'}
 use Rattle.formulas.specs.Names.{names_place, names_group, names, without}
 use Rattle.translation.specs.Numbers.{Numbering, numbered, numbers, fresh}
-use Rattle.translation.specs.Translation.{signed, or1, some_place, lies, is_first, is_before, is_end, is_sure, is_sure_in, sure, about, behind, is_place, is_in, is_same, each_in, set_within, is_within, within_set, set_counted, is_counted, relation_or, claim_as}
+use Rattle.translation.specs.Translation.{signed, or1, some_place, lies, is_first, is_before, is_end, is_sure, is_sure_in, sure, about, behind, is_place, is_in, is_same, each_in, set_within, is_within, within_set, is_set, is_counted, relation_or, claim_as}
 use Rattle.translation.specs.OnePlace.{relation_of}
 use Rattle.translation.specs.Settles.{singles}
 use Rattle.formula_claims.specs.Lengths.{sign_length, some_length, about_length, behind_length, place_length, group_length, same_length, each_length, set_within_length, within_length, within_set_length, counted_length, or_length, formula_length, places_length}
@@ -104,15 +104,15 @@ within_set_bytes ρ s n m =
     let q = some_bytes (is_sure_in s) m c (group_length s + 8) (and_bytes (is_in s ρ m) (not1 (lies m n)) ∙ omega arith) in
     omega arith
 
-set_counted_bytes : (ρ : Numbering) (s : Group) (r : Remainder) (m n : ℕ) → bytes (some m (set_counted ρ s r m n)) ≡ set_within_length s + within_set_length s + 8
+set_counted_bytes : (ρ : Numbering) (s : Group) (r : Remainder) (m n : ℕ) → bytes (some m (and1 (is_set ρ s m n) (multiple (record { remainder = r; set = m })))) ≡ set_within_length s + within_set_length s + 8
 set_counted_bytes ρ s r m n =
     let c = set_within ρ m s n in
     let d = within_set ρ s m n in
     let k = multiple (record { remainder = r; set = m }) in
     let p = set_within_bytes ρ m s n in
     let q = within_set_bytes ρ s m n in
-    let u = and_bytes d k in
-    let w = and_bytes c (and1 d k) in
+    let u = and_bytes c d in
+    let w = and_bytes (and1 c d) k in
     omega arith
 
 counted_bytes : (ρ : Numbering) (s : Group) (r : Remainder) (m n : ℕ) → bytes (is_counted ρ s r m n) ≡ counted_length s

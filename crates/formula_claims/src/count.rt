@@ -37,27 +37,25 @@ pub fn is_counted(
     push_group(&mut names, s)?;
     let m = fresh(&[], &names, scope);
     let n = fresh(&[m], &names, scope);
-    let claim = set_counted(alloc, s, remainder, scope, m, n)?;
-    let some = some_set(alloc, m, claim)?;
+    let same = is_set(alloc, s, scope, m, n)?;
+    let as_many = counted(alloc, Multiple { remainder, set: m })?;
+    let some = some_set(alloc, m, and(alloc, same, as_many)?)?;
     signed(alloc, holds, some)
 }
 
-// Set m has the places of s and no others, and as many as the remainder says.
-fn set_counted(
+// Set m has the places of s, tried as set n, and no others.
+fn is_set(
     alloc: Global,
     s: &Group,
-    remainder: Remainder,
     scope: &Scope,
     m: usize,
     n: usize,
 ) -> Result<Box<Claim>, AllocError>
-    ensures { IfOk result (λ c. said c.value ≡ Translation.set_counted (number_of scope.now) s.now remainder m n) }
+    ensures { IfOk result (λ c. said c.value ≡ Translation.is_set (number_of scope.now) s.now m n) }
 {
     let no_others = set_within(alloc, m, s, scope, n)?;
     let all = within_set(alloc, s, m, scope, n)?;
-    let as_many = counted(alloc, Multiple { remainder, set: m })?;
-    let all_counted = and(alloc, all, as_many)?;
-    and(alloc, no_others, all_counted)
+    and(alloc, no_others, all)
 }
 
 // Every place of s, tried as set m, is one of set n.

@@ -7,6 +7,7 @@ use Rattle.claims.specs.Claims.{has, put, C, Holds, within}
 use Rattle.claims.proofs.FrontLaws.{both_passed}
 use Rattle.claims.proofs.PlacesLaws.{put_same, put_other}
 use Rattle.translation.proofs.Families.{Family, family_put}
+use Rattle.translation.proofs.Opened.{within_holds}
 use Rattle.rows.specs.Rules.{Line}
 use Rattle.rows.specs.Rows.{step}
 use Rattle.rows.specs.RowClaims.{below, same_number, Gives}
@@ -80,14 +81,14 @@ some_row_to b (n ∷ js) c v f h = let (u, g) = h in at u g.0 (some_row_to b js 
         inner j i (inr s) (inr l) e = absurd (s.0 l)
         inner j i (inr s) (inl q) e =
             let t : r.chosen (suc b + n) i ≡ true = subst (λ z. r.chosen (suc b + z) i ≡ true) q e in
-            sym (row_kept i) ∙ inn i (sym (r.kept (suc b + n) i (λ k m f. s.0 (let z : j ≡ k = omega arith in subst (λ z. Has z js) (sym z) m))) ∙ t)
+            sym (row_kept i) ∙ (within_holds (suc b + n) b (put v (suc b + n) u)).0 inn i (sym (r.kept (suc b + n) i (λ k m f. s.0 (let z : j ≡ k = omega arith in subst (λ z. Has z js) (sym z) m))) ∙ t)
 
 some_row_from : (b : ℕ) (js : List ℕ) (c : C) (u : Word) (v : Sets) → ((j i : ℕ) → sets u j i ≡ true → v b i ≡ true) → Holds c (put_row b js u v) → Holds (some_row b js c) v
 some_row_from b [] c u v inn h = h
 some_row_from b (n ∷ js) c u v inn h = (
   marks n u,
   (
-    (λ i e. row_kept i ∙ inn n i (sym (put_same v (suc b + n) (marks n u) i ∙ has_marks n u i) ∙ e)),
+    (within_holds (suc b + n) b (put v (suc b + n) (marks n u))).1 (λ i e. row_kept i ∙ inn n i (sym (put_same v (suc b + n) (marks n u) i ∙ has_marks n u i) ∙ e)),
     some_row_from b js c u (put v (suc b + n) (marks n u)) (λ j i e. row_kept i ∙ inn j i e) h,
   ),
 )

@@ -2,7 +2,7 @@
 use Rattle.std.proofs.Common.{◌≡◌, ℕ, Bool, true, false, ◌↔◌, List, ◌∷◌, sym, refl, ◌∙◌, subst, inl, inr}
 use Rattle.words.specs.Words.{Sets}
 use Rattle.kinds.specs.declared.multiple.Remainder.{Remainder}
-use Rattle.claims.specs.Claims.{some, multiple, Holds, has, put}
+use Rattle.claims.specs.Claims.{and1, some, multiple, Holds, has, put}
 use Rattle.claims.proofs.PlacesLaws.{put_same}
 use Rattle.formulas.specs.declared.name.Name.TheVariants.{OfGroup}
 use Rattle.formulas.specs.declared.formula.Group.{Group}
@@ -11,7 +11,7 @@ use Rattle.formulas.specs.declared.formula.Formula.TheVariants.{Count}
 use Rattle.formulas.specs.Meaning.{Env, members, Meaning}
 use Rattle.formulas.specs.Names.{names_group, Among}
 use Rattle.translation.specs.Numbers.{Numbering, numbers, fresh}
-use Rattle.translation.specs.Translation.{is_sure_in, is_in, set_within, within_set, set_counted, claim}
+use Rattle.translation.specs.Translation.{is_sure_in, is_in, set_within, within_set, is_set, claim}
 use Rattle.translation.proofs.NumbersLaws.{fresh_free}
 use Rattle.translation.proofs.Families.{Family, family_put, put_agree}
 use Rattle.translation.proofs.Standing.{Stands, Stand, stand_agree}
@@ -39,15 +39,15 @@ within_set_says g n u ρ e k v f p r s d =
 
 -- set m, tried for the set of g, has its places and no others, and as many as the remainder says
 counted_other : (g : Group) (r : Remainder) (ρ : Numbering) (e : Env) (m k : ℕ) (v : Sets) → Family v → Stand v ρ e (names_group g) → (Among m (numbers ρ (names_group g)) → ⊥) → (m ≡ k → ⊥) → (Among k (numbers ρ (names_group g)) → ⊥) →
-    Holds (some m (set_counted ρ g r m k)) v ↔ Meaning (Count g r) e
+    Holds (some m (and1 (is_set ρ g m k) (multiple (record { remainder = r; set = m })))) v ↔ Meaning (Count g r) e
 counted_other g r ρ e m k v f s d n l = (
   λ h. (let (u, p) = h in
       let w = parts u in
-      let both : (i : ℕ) → put v m u m i ≡ has (members g e) i = λ i. put_same v m u i ∙ same_test (has u i) (has (members g e) i) ((w.0).0 p.0 i) ((w.1).0 p.1.0 i) in
-      (multiple_says (record { remainder = r; set = m }) (put v m u) (members g e) both).0 p.1.1),
+      let both : (i : ℕ) → put v m u m i ≡ has (members g e) i = λ i. put_same v m u i ∙ same_test (has u i) (has (members g e) i) ((w.0).0 p.0.0 i) ((w.1).0 p.0.1 i) in
+      (multiple_says (record { remainder = r; set = m }) (put v m u) (members g e) both).0 p.1),
   λ h. (let u = members g e in
       let w = parts u in
-      (u, ((w.0).1 (λ i q. q), ((w.1).1 (λ i q. q), (multiple_says (record { remainder = r; set = m }) (put v m u) u (λ i. put_same v m u i)).1 h)))),
+      (u, (((w.0).1 (λ i q. q), (w.1).1 (λ i q. q)), (multiple_says (record { remainder = r; set = m }) (put v m u) u (λ i. put_same v m u i)).1 h))),
 )
   where
     parts : (u : List Bool) →

@@ -128,14 +128,14 @@ is_within ρ s t m = each_in ρ (is_sure_in s) (is_in s ρ m) t m
 abbrev pub within_set : Numbering → Group → ℕ → ℕ → C
 within_set ρ s n m = not1 (some_place (is_sure_in s) m (and1 (is_in s ρ m) (not1 (lies m n))))
 
--- set m, which has the places of s, tried as set n, and no others, has as many as the remainder says
-abbrev pub set_counted : Numbering → Group → Remainder → ℕ → ℕ → C
-set_counted ρ s r m n = and1 (set_within ρ m s n) (and1 (within_set ρ s m n) (multiple (record { remainder = r; set = m })))
+-- set m has the places of s, tried as set n, and no others
+abbrev pub is_set : Numbering → Group → ℕ → ℕ → C
+is_set ρ s m n = and1 (set_within ρ m s n) (within_set ρ s m n)
 
--- s has as many: it is said of its own set if it has a name, else of a set m
+-- s has as many places as the remainder says: it is said of its own set if it has a name, else of a set m that has its places
 abbrev pub is_counted : Numbering → Group → Remainder → ℕ → ℕ → C
 is_counted ρ (group x) r m n = multiple (record { remainder = r; set = ρ (OfGroup x) })
-is_counted ρ s r m n = some m (set_counted ρ s r m n)
+is_counted ρ s r m n = some m (and1 (is_set ρ s m n) (multiple (record { remainder = r; set = m })))
 
 -- whether the claim that both are the same place, above, is sure of the set of the place x: the place that has a name, the first if both have, is said to be the other
 abbrev pub sure_same : ℕ → Place → Place → Bool
