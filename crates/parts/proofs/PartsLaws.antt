@@ -4,7 +4,7 @@ use Rattle.formulas.specs.declared.formula.Formula.{Formula}
 use Rattle.trees.specs.declared.tree.Unary.TheVariants.{Not, Min, Max, IsEmpty}
 use Rattle.trees.specs.Tree.{Expr, at}
 use Rattle.trees.specs.declared.tree.ExprKind.{ExprKind}
-use Rattle.trees.specs.declared.tree.ExprKind.TheVariants.{True, False, Empty, Number, Named, Listed', Unary', Binary', Bound', Call'}
+use Rattle.trees.specs.declared.tree.ExprKind.TheVariants.{True, False, Empty, Number, Named, Listed', Unary', Binary', Bound', Call', Count'}
 use Rattle.trees.specs.declared.tree.Item.{Item}
 use Rattle.trees.specs.declared.tree.Item.TheVariants.{Free, Predicate as Defined, Assert, Formula as Claimed}
 use Rattle.resolve.specs.Faults.{Among}
@@ -39,6 +39,7 @@ some_size (Unary' sign _ a s) = omega arith
 some_size (Binary' sign _ a s _ b t) = omega arith
 some_size (Bound' q sort names _ a s) = omega arith
 some_size (Call' x shape all) = omega arith
+some_size (Count' _ a s m r) = omega arith
 
 bodies_behind : (item : Item) (items : List Item) → bodies (item ∷ items) ≡ bodies (item ∷ []) + bodies items
 bodies_behind (Free sort names) items = omega arith
@@ -90,6 +91,7 @@ of_smaller known (Unary' IsEmpty _ a s) f q h = absurd h
 of_smaller known (Binary' sign _ a s _ b t) f q h = let m = two_smaller known (at a s) (at b t) (halves sign f) q h in omega arith
 of_smaller known (Bound' r sort names _ a s) f q h = elim h [ inl e ↦ omega (arith, ap weight e) | inr n ↦ absurd n ]
 of_smaller known (Call' x shape all) f q h = let m = called_smaller known (position (defines (string_bytes x.text)) known) f q h in omega arith
+of_smaller known (Count' _ a s m r) f q h = absurd h
 of_smaller known True f q h = absurd h
 of_smaller known False f q h = absurd h
 of_smaller known Empty f q h = absurd h

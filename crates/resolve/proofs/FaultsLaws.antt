@@ -1,22 +1,23 @@
 -- Faults of an operand are faults of the expression.
-use Rattle.std.proofs.Common.{◌≡◌, ℕ, length, arith, ◌⊎◌, ◌∙◌, Option, MatchOption, List, ◌∷◌, Some, None, inl, inr, refl, sym, subst, string_bytes, Vec, Global, Result, Ok, Err, IfErr, IsErrAnd}
+use Rattle.std.proofs.Common.{◌≡◌, ℕ, length, arith, ◌⊎◌, ◌∙◌, Option, MatchOption, List, ◌∷◌, Some, None, inl, inr, refl, sym, subst, string_bytes, Vec, Box, Global, Result, Ok, Err, IfErr, IsErrAnd}
 use Rattle.trees.specs.Tree.{Expr}
 use Rattle.trees.specs.declared.tree.Name.{Name}
 use Rattle.trees.specs.declared.tree.Parameter.{Parameter}
 use Rattle.trees.specs.declared.tree.Predicate.{Predicate}
 use Rattle.trees.specs.declared.tree.Quantifier.{Quantifier}
 use Rattle.trees.specs.declared.tree.Sort.{Sort}
+use Rattle.trees.specs.declared.tree.Spanned.{Spanned}
 use Rattle.trees.specs.declared.tree.Unary.{Unary as OneSign}
 use Rattle.trees.specs.declared.tree.Unary.TheVariants.{Min, Max}
 use Rattle.trees.specs.declared.tree.Binary.{Binary as TwoSign}
 use Rattle.trees.specs.declared.tree.Binary.TheVariants.{Union, Inter, Without, Plus, Minus}
-use Rattle.trees.specs.declared.tree.ExprKind.{Listed, Named, Unary, Binary, Bound, Call}
+use Rattle.trees.specs.declared.tree.ExprKind.{Listed, Named, Unary, Binary, Bound, Call, Count}
 use Rattle.resolve.specs.declared.fault.Class.{Class}
 use Rattle.resolve.specs.declared.fault.Class.TheVariants.{Formula, Place, Set}
 use Rattle.resolve.specs.declared.fault.Fault.{Fault}
 use Rattle.resolve.specs.declared.fault.Fault.TheVariants.{Class as OtherClass, Number as NoNumber, Name as NoName, Predicate as NoPredicate, Arguments as OtherCount}
 use Rattle.resolve.specs.declared.scope.Term.{Term}
-use Rattle.resolve.specs.Faults.{Signature, named, Faulty, in_operand, in_list, in_bound, in_argument, in_body, no_predicate, other_count, predicate_of, with_names, with_parameters, as_parameters, class_of_sort, no_number, no_name, other_class, sort_of, IsLimit, IsNumber, NeedsNumber, Among, operands, each_of, class_of, side}
+use Rattle.resolve.specs.Faults.{Signature, named, Faulty, in_operand, in_list, in_bound, in_argument, in_body, no_predicate, other_count, predicate_of, with_names, with_parameters, as_parameters, class_of_sort, no_number, no_name, miscounted, Miscounted, other_class, sort_of, IsLimit, IsNumber, NeedsNumber, Among, operands, each_of, class_of, side}
 
 pub place_not_set : Place ≡ Set → ⊥
 place_not_set q = cc
@@ -139,6 +140,14 @@ module _ {A : Type 0} (r : Result A Fault) (k : Signature) (e : Expr) where
 
   pub unless_err : (P : Type 0) → IfErr r (λ f. IsLimit f ⊎ Faulty k Formula e f) → IfErr r (λ f. IsLimit f ⊎ ((P → ⊥) → Faulty k Formula e f))
   unless_err P h = if_err r (λ f. IsLimit f ⊎ Faulty k Formula e f) (λ f. IsLimit f ⊎ ((P → ⊥) → Faulty k Formula e f)) (λ g. unless k e g) h
+
+-- what is told of a count
+pub counted_tail : {A : Type 0} (r : Result A Fault) (k : Signature) (e : Expr) (set : Box Expr Global) (m n : Spanned ℕ) (a : Expr) → e.kind ≡ Count set m n → a ≡ set.value →
+    IfErr r (λ f. IsLimit f ⊎ (Miscounted m n f ⊎ Faulty k Set a f)) → IfErr r (λ f. IsLimit f ⊎ Faulty k Formula e f)
+counted_tail r k e set m n a shape same h =
+    let at : Among (Set, a) (operands k e.kind) = rw (shape, same) (inl refl) in
+    if_err r (λ f. IsLimit f ⊎ (Miscounted m n f ⊎ Faulty k Set a f)) (λ f. IsLimit f ⊎ Faulty k Formula e f)
+    (λ g. elim [ inl l ↦ inl l | inr q ↦ elim q [ inl x ↦ inr (miscounted set m n shape x) | inr x ↦ inr (in_operand at x) ] ]) h
 
 -- what a quantifier says of its names
 pub bound_more : {A : Type 0} (r : Result A Fault) (k : Signature) (sort s : Sort) (x : Name) (xs rest : List Name) (body : Expr) (g : Fault) → IsErrAnd r (λ y. y ≡ g) → xs ≡ x ∷ rest → s ≡ sort →

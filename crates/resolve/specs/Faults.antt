@@ -1,16 +1,17 @@
 -- Which faults a text has, and where. Of a name only its sort matters, so nothing here speaks of terms or values.
-use Rattle.std.specs.Prelude.{◌≡◌, ℕ, cond, ◌⊎◌, List, [], ◌∷◌, length, string_bytes, Option, Some, None, IsSome, Vec, Box}
+use Rattle.std.specs.Prelude.{◌≡◌, ℕ, ◌≤◌, cond, ◌⊎◌, List, [], ◌∷◌, length, string_bytes, Option, Some, None, IsSome, Vec, Box}
 use Rattle.std.specs.Str.{bytes_eq}
 use Rattle.std.specs.Global.{Global}
 use Rattle.trees.specs.Tree.{Expr, at}
 use Rattle.trees.specs.declared.tree.Name.{Name}
+use Rattle.trees.specs.declared.tree.Spanned.{Spanned}
 use Rattle.trees.specs.declared.tree.Sort.{Sort}
 use Rattle.trees.specs.declared.tree.Sort.TheVariants.{Place as OfPlace, Set as OfSet}
 use Rattle.trees.specs.declared.tree.Quantifier.{Quantifier}
 use Rattle.trees.specs.declared.tree.Unary.TheVariants.{Not, Min, Max, IsEmpty}
 use Rattle.trees.specs.declared.tree.Binary.TheVariants.{Iff, Implies, Or, And, In, NotIn, Sub, Equal, Differs, Less, AtMost, Greater, AtLeast, Union, Inter, Without, Plus, Minus}
-use Rattle.trees.specs.declared.tree.ExprKind.{ExprKind, Listed, Bound, Call}
-use Rattle.trees.specs.declared.tree.ExprKind.TheVariants.{True, False, Empty, Number, Named, Listed', Unary', Binary', Bound', Call'}
+use Rattle.trees.specs.declared.tree.ExprKind.{ExprKind, Listed, Bound, Call, Count}
+use Rattle.trees.specs.declared.tree.ExprKind.TheVariants.{True, False, Empty, Number, Named, Listed', Unary', Binary', Bound', Call', Count'}
 use Rattle.trees.specs.declared.tree.Parameter.{Parameter}
 use Rattle.trees.specs.declared.tree.Predicate.{Predicate}
 use Rattle.trees.specs.declared.tree.Item.{Item}
@@ -18,7 +19,7 @@ use Rattle.trees.specs.declared.tree.Item.TheVariants.{Free, Predicate as Define
 use Rattle.resolve.specs.declared.fault.Class.{Class}
 use Rattle.resolve.specs.declared.fault.Class.TheVariants.{Formula, Place, Set}
 use Rattle.resolve.specs.declared.fault.Fault.{Fault}
-use Rattle.resolve.specs.declared.fault.Fault.TheVariants.{Class as OtherClass, Number as NoNumber, Name as NoName, Predicate as NoPredicate, Arguments as OtherCount, Again, Deep, Large, Memory}
+use Rattle.resolve.specs.declared.fault.Fault.TheVariants.{Class as OtherClass, Number as NoNumber, Name as NoName, Predicate as NoPredicate, Arguments as OtherCount, Modulus, Rest, Again, Deep, Large, Memory}
 
 -- the names and predicates that are known where a part of a text stands, the innermost first
 pub data Signature : Type 0 where
@@ -106,6 +107,7 @@ operands k (Binary' Inter _ a s _ b t) = (Set, at a s) ∷ (Set, at b t) ∷ []
 operands k (Binary' Without _ a s _ b t) = (Set, at a s) ∷ (Set, at b t) ∷ []
 operands k (Binary' Plus _ a s _ _ _) = (Place, at a s) ∷ []
 operands k (Binary' Minus _ a s _ _ _) = (Place, at a s) ∷ []
+operands k (Count' _ a s m r) = (Set, at a s) ∷ []
 operands k _ = []
 
 -- the operand that has to be a number
@@ -117,6 +119,10 @@ NeedsNumber _ n = ⊥
 abbrev pub IsNumber : ExprKind → Type 0
 IsNumber (Number n) = Unit {0}
 IsNumber _ = ⊥
+
+-- the numbers of a count that are at fault: the first, unless it is from 2 to 16, or else the second, unless it is below the first
+abbrev pub Miscounted : Spanned ℕ → Spanned ℕ → Fault → Type 0
+Miscounted m r f = ((2 ≤ m.kind → m.kind ≤ 16 → ⊥) × f ≡ Modulus m.span) ⊎ ((m.kind ≤ r.kind) × f ≡ Rest m.kind r.span)
 
 abbrev pub Among : {A : Type 0} → A → List A → Type 0
 Among x [] = ⊥
@@ -148,6 +154,8 @@ pub data Faulty : Signature → Class → Expr → Fault → Type 0 where
   -- not as many arguments as the predicate has parameters
   other_count : {k d : Signature} {e : Expr} {p : Predicate} {x : Name} (all : Vec Expr Global) → e.kind ≡ Call x all → predicate_of k (string_bytes x.text) ≡ Some (p, d) → (length p.parameters.items ≡ length all.items → ⊥) →
       Faulty k Formula e (OtherCount (length p.parameters.items) (length all.items) e.span)
+  -- a set is counted by such numbers
+  miscounted : {k : Signature} {e : Expr} (a : Box Expr Global) (m r : Spanned ℕ) {f : Fault} → e.kind ≡ Count a m r → Miscounted m r f → Faulty k Formula e f
   -- an operand has the fault
   in_operand : {k : Signature} {wanted c : Class} {e a : Expr} {f : Fault} → Among (c, a) (operands k e.kind) → Faulty k c a f → Faulty k wanted e f
   -- a place of a list has it

@@ -1,9 +1,9 @@
 -- What a text says: which place or set a term is, when a formula holds, what is assumed and what is claimed.
-use Rattle.std.specs.Prelude.{◌≡◌, ℕ, suc, ◌+◌, ◌-◌, ◌<◌, ◌≤◌, Bool, true, cond, ◌&&◌, ◌||◌, not, ◌⊎◌, List, [], ◌∷◌, string_bytes}
+use Rattle.std.specs.Prelude.{◌≡◌, ℕ, suc, ◌+◌, ◌*◌, ◌-◌, ◌<◌, ◌≤◌, Bool, true, cond, ◌&&◌, ◌||◌, not, ◌⊎◌, List, [], ◌∷◌, string_bytes}
 use Rattle.std.specs.Str.{bytes_eq}
 use Rattle.claims.specs.Claims.{has}
 use Rattle.claims.specs.Places.{one}
-use Rattle.formulas.specs.Sets.{mix, lowest, highest}
+use Rattle.formulas.specs.Sets.{mix, lowest, highest, how_many}
 use Rattle.formulas.specs.Meaning.{Env}
 use Rattle.trees.specs.declared.tree.Name.{Name}
 use Rattle.trees.specs.declared.tree.Sort.{Sort}
@@ -13,7 +13,7 @@ use Rattle.trees.specs.declared.tree.Quantifier.TheVariants.{Some, All}
 use Rattle.trees.specs.declared.tree.Unary.TheVariants.{Not, Min, Max, IsEmpty}
 use Rattle.trees.specs.declared.tree.Binary.TheVariants.{Iff, Implies, Or, And, In, NotIn, Sub, Equal, Differs, Less, AtMost, Greater, AtLeast, Union, Inter, Without, Plus, Minus}
 use Rattle.trees.specs.declared.tree.ExprKind.{ExprKind, Row_of-ExprKind-Listed-0-2 as Exprs, end_of-ExprKind-Listed-0-2 as end, more_of-ExprKind-Listed-0-2 as more}
-use Rattle.trees.specs.declared.tree.ExprKind.TheVariants.{True, Empty, Number, Named, Listed', Unary', Binary', Bound', Call'}
+use Rattle.trees.specs.declared.tree.ExprKind.TheVariants.{True, Empty, Number, Named, Listed', Unary', Binary', Bound', Call', Count'}
 use Rattle.trees.specs.declared.tree.Parameter.{Parameter}
 use Rattle.trees.specs.declared.tree.Predicate.{Predicate}
 use Rattle.trees.specs.declared.tree.Item.{Item}
@@ -109,6 +109,7 @@ holds (Binary' Greater _ a _ _ b _) s = place_of (value b s) < place_of (value a
 holds (Binary' AtLeast _ a _ _ b _) s = place_of (value b s) ≤ place_of (value a s)
 holds (Bound' q sort names _ a _) s = quantified q sort names.items (λ z. holds a z) s
 holds (Call' f shape all) s = s.says (string_bytes f.text) (values all s)
+holds (Count' _ a _ m r) s = (t : ℕ) × (how_many (set_of (value a s)) ≡ t * m.kind + r.kind)
 holds _ s = ⊥
 
 -- a predicate says of its arguments what its body says of its parameters, where it is declared

@@ -151,6 +151,7 @@ impl Resolver {
                 }
                 _ => Err(self.no_formula(expr, scope, calls)),
             },
+            ExprKind::Count(set, modulus, rest) => self.counted(set, modulus, rest, scope, calls),
             _ => Err(self.no_formula(expr, scope, calls)),
         }
     }

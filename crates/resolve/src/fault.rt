@@ -25,6 +25,10 @@ pub enum Fault {
     Predicate(Span),
     // how many arguments the predicate has, how many are given
     Arguments(usize, usize, Span),
+    // the number by which a set is counted
+    Modulus(Span),
+    // that number, and where the rest stands
+    Rest(u32, Span),
     Again(Span),
     Deep(Span),
     Large(Span),
@@ -68,6 +72,8 @@ impl Fault {
             | Fault::Name(span)
             | Fault::Predicate(span)
             | Fault::Arguments(_, _, span)
+            | Fault::Modulus(span)
+            | Fault::Rest(_, span)
             | Fault::Again(span)
             | Fault::Deep(span)
             | Fault::Large(span) => Some(*span),
@@ -102,6 +108,12 @@ impl Fault {
                 };
                 format!(in heap; "expected {wanted} {word}, found {given} in `{found}`")
             }
+            Fault::Modulus(_) => format!(in heap;
+                "expected a number from 2 to 16 to count by, found `{found}`"
+            ),
+            Fault::Rest(modulus, _) => format!(in heap;
+                "expected a rest below {modulus}, found `{found}`"
+            ),
             Fault::Again(_) => format!(in heap;
                 "expected a name that is not declared yet, found `{found}`"
             ),

@@ -234,9 +234,11 @@ impl Resolver {
                 }
                 _ => Err(Fault::Class(wanted, Class::Formula, expr.span)),
             },
-            ExprKind::True | ExprKind::False | ExprKind::Bound(..) | ExprKind::Call(..) => {
-                Err(Fault::Class(wanted, Class::Formula, expr.span))
-            }
+            ExprKind::True
+            | ExprKind::False
+            | ExprKind::Bound(..)
+            | ExprKind::Call(..)
+            | ExprKind::Count(..) => Err(Fault::Class(wanted, Class::Formula, expr.span)),
         }
     }
 

@@ -121,7 +121,7 @@ term-returns-in-True-clause-faults t c =
       | inl x ↦ ap (λ y. class_of k y) x
       | inr x ↦ elim x [
         | inl y ↦ ap (λ z. class_of k z) y
-        | inr y ↦ elim y [ inl z ↦ ap (λ v. class_of k v) z.4 | inr z ↦ ap (λ v. class_of k v) z.2 ]
+        | inr y ↦ elim y [ inl z ↦ ap (λ v. class_of k v) z.4 | inr z ↦ elim z [ inl v ↦ ap (λ u. class_of k u) v.2 | inr v ↦ ap (λ u. class_of k u) v.3 ] ]
       ]
     ] in
     inr (inl (formula, refl))

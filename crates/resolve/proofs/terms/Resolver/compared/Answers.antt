@@ -2,13 +2,18 @@ use Rattle.std.proofs.Common.{◌≡◌, inl, inr, refl}
 use Rattle.resolve.specs.Scopes.{signature}
 use Rattle.resolve.specs.Faults.{class_of, side, Connects}
 use Rattle.resolve.specs.declared.fault.Class.TheVariants.{Place, Set}
-use Rattle.resolve.proofs.FaultsLaws.{one_tail, two_tail, two_passed, unless_err}
+use Rattle.resolve.proofs.FaultsLaws.{one_tail, two_tail, two_passed, counted_tail, unless_err}
 use Rattle.resolve.proofs.terms.Resolver.compared.Goals as goal
 
 pub returns-in-IsEmpty-clause-faults : goal.returns-in-IsEmpty-clause-faults
 returns-in-IsEmpty-clause-faults c =
     let d1 : c.deref.result.now ≡ c.in-Unary.a.value = c.deref.ensures in
     unless_err c.emptied.result (signature c.args.scope.now) c.args.expr.now (Connects c.args.expr.now.kind) (one_tail c.emptied.result (signature c.args.scope.now) c.args.expr.now Set c.deref.result.now c.emptied.ensures.faults (rw (c.in-Unary.is, c.in-IsEmpty.is, d1) (inl refl)))
+
+pub returns-in-Count-clause-faults : goal.returns-in-Count-clause-faults
+returns-in-Count-clause-faults c =
+    let at = c.in-Count in
+    unless_err c.counted.result (signature c.args.scope.now) c.args.expr.now (Connects c.args.expr.now.kind) (counted_tail c.counted.result (signature c.args.scope.now) c.args.expr.now at.set at.modulus at.rest c.deref-in-Count.result.now at.is c.deref-in-Count.ensures c.counted.ensures.faults)
 
 pub returns-in-In-clause-faults : goal.returns-in-In-clause-faults
 returns-in-In-clause-faults c =
