@@ -3,10 +3,11 @@ use crate::known::Known;
 use crate::refusal::Refusal;
 use formulas::formula::{Formula, Group, Place};
 use formulas::name::Name;
+use kinds::multiple::Remainder;
 use std::alloc::{AllocError, Global};
 use trees::position::Span;
 use trees::tree;
-use trees::tree::{Binary, Expr, ExprKind, Quantifier, Sort, Unary};
+use trees::tree::{Binary, Expr, ExprKind, Quantifier, Sort, Spanned, Unary};
 
 // What is printed stands in no text yet.
 const NOWHERE: Span = Span { start: 0, end: 0 };
@@ -120,6 +121,24 @@ fn lies(alloc: Global, sign: Binary, t: &Place, s: &Group, known: &Known) -> Res
     Ok(binary(alloc, sign, left, right)?)
 }
 
+fn number(n: u8) -> Spanned<u32> {
+    Spanned {
+        kind: u32::from(n),
+        span: NOWHERE,
+    }
+}
+
+// How many places a set has, by a number.
+fn of_count(
+    alloc: Global,
+    s: &Group,
+    remainder: Remainder,
+    known: &Known,
+) -> Result<Expr, Refusal> {
+    let set = Box::new(alloc, of_group(alloc, s, known)?)?;
+    Ok(expr(ExprKind::Count(set, number(remainder.modulus), number(remainder.rest))))
+}
+
 /// The formula, where its names are known by those words; a name that is not known is refused.
 #[cycle(formulas)]
 pub fn of_formula(alloc: Global, formula: &Formula, known: &Known) -> Result<Expr, Refusal> {
@@ -129,6 +148,7 @@ pub fn of_formula(alloc: Global, formula: &Formula, known: &Known) -> Result<Exp
         Formula::Less(s, t) => of_places(alloc, Binary::Less, s, t, known),
         Formula::In(t, s) => lies(alloc, Binary::In, t, s, known),
         Formula::Sub(s, t) => of_groups(alloc, Binary::Sub, s, t, known),
+        Formula::Count(s, remainder) => of_count(alloc, s, *remainder, known),
         Formula::Not(a) => of_opposite(alloc, a, known),
         Formula::And(a, b) => {
             let left = of_formula(alloc, a, known)?;

@@ -35,8 +35,9 @@ fn put_declared(out: &mut String, words: &[&str]) -> Result<(), AllocError> {
     }
 }
 
-/// The claim as a text that `settle` and MONA read: what it declares, in order of their numbers, are the sets up to the last that is free in the claim,
-/// called by the names, and one formula. An error where names are none of the readable form or the same, where a free set has none, and for memory.
+/// The claim as a text that `settle` reads, and MONA where nothing is counted: what it declares, in order of their
+/// numbers, are the sets up to the last that is free in the claim, called by the names, and one formula. An error where
+/// names are none of the readable form or the same, where a free set has none, and for memory.
 pub fn text(alloc: Global, claim: &Claim, names: &[&str]) -> Result<String, Refusal> {
     check_names(alloc, names)?;
     let formula = formula_of(alloc, claim)?;

@@ -6,6 +6,7 @@ use Rattle.formulas.specs.declared.formula.Formula.{Formula}
 use Rattle.claims.specs.Rows.{row}
 use Rattle.claims.specs.Encoded.{sets_needed}
 use Rattle.workspace.specs.Floor.{floor_words}
+use Rattle.translation.proofs.Opened.{within_itself}
 use Rattle.rows.specs.RowClaims.{same_number, marked, Tells, First as FirstRow}
 use Rattle.rows.specs.Faults.{allowed_part, fault_part, RuleClaims}
 use Rattle.rows.proofs.Telling.{tells as tells_row}
@@ -39,7 +40,7 @@ module _ (r : Rule) where
   none_left t w hw p = let h = (t.left.of_row w hw).1 p in both_said r.limits.items (sets (marked r.bits w)) h.1.0 h.1.1
 
   left_tells : (js : List ℕ) → RuleClaims r.bits js r.allowed.items r.limits.items r.table.items → Tells r.bits (left_of r.bits js r.allowed.items r.limits.items r.table.items) (Has r Left)
-  left_tells [] t = tells_row r.bits r.one (not1 (lies_within r.bits r.bits)) (Has r Left) (λ v w f hw g. (λ h. absurd (h (λ i e. e)), λ p. absurd (none_left t w hw p)))
+  left_tells [] t = tells_row r.bits r.one (not1 (lies_within r.bits r.bits)) (Has r Left) (λ v w f hw g. (λ h. absurd (h (within_itself r.bits v)), λ p. absurd (none_left t w hw p)))
   left_tells (j ∷ js) t = t.left
 
   pub tells : (p : Property) → IsOf r p → Tells r.bits (claim_of r p) (Has r p)
