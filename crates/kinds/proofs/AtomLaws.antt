@@ -9,7 +9,6 @@ use Rattle.kinds.specs.declared.atom.Atom.{Atom}
 use Rattle.kinds.specs.declared.atom.Atom.TheVariants.{Related, Counted}
 use Rattle.kinds.specs.declared.multiple.Multiple.{Multiple}
 use Rattle.kinds.specs.declared.multiple.Remainder.{Remainder}
-use Rattle.kinds.specs.declared.relation.Relation.{Relation}
 use Rattle.kinds.specs.declared.relation.Relation.TheVariants.{Within, Single, Next, Before}
 
 -- A remainder is its two numbers, whatever the proofs that they are as they must be.
