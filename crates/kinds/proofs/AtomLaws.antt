@@ -9,7 +9,6 @@ use Rattle.kinds.specs.declared.atom.Atom.{Atom}
 use Rattle.kinds.specs.declared.atom.Atom.TheVariants.{Related, Counted}
 use Rattle.kinds.specs.declared.multiple.Multiple.{Multiple}
 use Rattle.kinds.specs.declared.multiple.Remainder.{Remainder}
-use Rattle.kinds.specs.declared.relation.Relation.{Relation}
 use Rattle.kinds.specs.declared.relation.Relation.TheVariants.{Within, Single, Next, Before}
 
 -- A remainder is its two numbers, whatever the proofs that they are as they must be.
@@ -34,47 +33,27 @@ same_multiple a b e f g =
 unlike : {A : Type 0} {a b : ℕ} {x y : List ℕ} → eqb a b ≡ false → a ∷ x ≡ b ∷ y → A
 unlike {a = a} {b = b} n e = let h : a ≡ b = cc in absurd (false≢true (sym n ∙ eq-eqb a b h))
 
-one_relation : (r s : Relation) (x y : List ℕ) → row_of (Related r) ++ x ≡ row_of (Related s) ++ y → (r ≡ s) × (x ≡ y)
-one_relation (Within p q) (Within r s) x y e = (cc, cc)
-one_relation (Within p q) (Single r) x y e = unlike refl e
-one_relation (Within p q) (Next r s) x y e = unlike refl e
-one_relation (Within p q) (Before r s) x y e = unlike refl e
-one_relation (Single p) (Within r s) x y e = unlike refl e
-one_relation (Single p) (Single r) x y e = (cc, cc)
-one_relation (Single p) (Next r s) x y e = unlike refl e
-one_relation (Single p) (Before r s) x y e = unlike refl e
-one_relation (Next p q) (Within r s) x y e = unlike refl e
-one_relation (Next p q) (Single r) x y e = unlike refl e
-one_relation (Next p q) (Next r s) x y e = (cc, cc)
-one_relation (Next p q) (Before r s) x y e = unlike refl e
-one_relation (Before p q) (Within r s) x y e = unlike refl e
-one_relation (Before p q) (Single r) x y e = unlike refl e
-one_relation (Before p q) (Next r s) x y e = unlike refl e
-one_relation (Before p q) (Before r s) x y e = (cc, cc)
-
--- the sign of a relation is none of another kind's
-not_relation : {A : Type 0} (r : Relation) (b : ℕ) (x y : List ℕ) → 3 < b → row_of (Related r) ++ x ≡ b ∷ y → A
-not_relation (Within p q) b x y l e = let z : ◌≡◌ {A = ℕ} 0 b = cc in absurd (omega arith)
-not_relation (Single p) b x y l e = let z : ◌≡◌ {A = ℕ} 1 b = cc in absurd (omega arith)
-not_relation (Next p q) b x y l e = let z : ◌≡◌ {A = ℕ} 2 b = cc in absurd (omega arith)
-not_relation (Before p q) b x y l e = let z : ◌≡◌ {A = ℕ} 3 b = cc in absurd (omega arith)
-
-one_multiple : (c d : Multiple) (x y : List ℕ) → row_of (Counted c) ++ x ≡ row_of (Counted d) ++ y → (c ≡ d) × (x ≡ y)
-one_multiple c d x y e = (same_multiple c d (cc) (cc) (cc), cc)
-
--- bytes begin with at most one claim without parts, and leave at most one rest
+-- bytes begin with at most one claim without parts, and leave at most one rest: a clause for each
+-- sign; two signs that differ are two first bytes (the clause before the last is one of these, and
+-- has the relation taken apart for all of them)
 pub one_atom : (a b : Atom) (x y : List ℕ) → row_of a ++ x ≡ row_of b ++ y → (a ≡ b) × (x ≡ y)
-one_atom (Related r) (Related s) x y e = let (h, t) = one_relation r s x y e in (ap Related h, t)
-one_atom (Related r) (Counted d) x y e = not_relation r 7 x _ (omega arith) e
-one_atom (Counted c) (Related s) x y e = not_relation s 7 y _ (omega arith) (sym e)
-one_atom (Counted c) (Counted d) x y e = let (h, t) = one_multiple c d x y e in (ap Counted h, t)
+one_atom (Related (Within p q)) (Related (Within r s)) x y e = (cc, cc)
+one_atom (Related (Single p)) (Related (Single r)) x y e = (cc, cc)
+one_atom (Related (Next p q)) (Related (Next r s)) x y e = (cc, cc)
+one_atom (Related (Before p q)) (Related (Before r s)) x y e = (cc, cc)
+one_atom (Counted c) (Counted d) x y e = (ap Counted (same_multiple c d (cc) (cc) (cc)), cc)
+one_atom (Counted c) (Related (Within r s)) x y e = unlike refl e
+one_atom _ _ x y e = unlike refl e
 
 -- the sign of a claim with parts
 abbrev pub IsOther : ℕ → Type 0
 IsOther b = (4 ≤ b) × (b ≤ 6)
 
 pub other_sign : (a : Atom) (x : List ℕ) (b : ℕ) (y : List ℕ) → row_of a ++ x ≡ b ∷ y → IsOther b → ⊥
-other_sign (Related r) x b y e h = not_relation r b x y (omega (arith, h.0)) e
+other_sign (Related (Within p q)) x b y e h = let z : ◌≡◌ {A = ℕ} 0 b = cc in omega (arith, h.0)
+other_sign (Related (Single p)) x b y e h = let z : ◌≡◌ {A = ℕ} 1 b = cc in omega (arith, h.0)
+other_sign (Related (Next p q)) x b y e h = let z : ◌≡◌ {A = ℕ} 2 b = cc in omega (arith, h.0)
+other_sign (Related (Before p q)) x b y e h = let z : ◌≡◌ {A = ℕ} 3 b = cc in omega (arith, h.0)
 other_sign (Counted c) x b y e h = let z : ◌≡◌ {A = ℕ} 7 b = cc in omega (arith, h.1)
 
 pub row_long : (a : Atom) → 2 ≤ length (row_of a)
