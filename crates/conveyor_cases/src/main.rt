@@ -1,5 +1,5 @@
 // Cases of `conveyor`: files that are at fault and words that are refused, with the message on standard error and the status of each; claims that are too
-// large, with the place. `conveyor_cases FILE..`
+// large, with the place; a rule that counts its trays. `conveyor_cases FILE..`
 #![tactic(auto)]
 
 use rule_command::command::{parse, status_of};
