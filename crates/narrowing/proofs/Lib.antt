@@ -1,1 +1,3 @@
 pub mod ColumnsLaws
+pub mod WideLaws
+pub mod OrderedLaws
