@@ -1,3 +1,5 @@
 pub mod ColumnsLaws
 pub mod WideLaws
 pub mod OrderedLaws
+pub mod SearchLaws
+pub mod PartsLaws
