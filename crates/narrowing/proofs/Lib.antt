@@ -1,1 +1,2 @@
 pub mod ColumnsLaws
+pub mod LooksLaws
