@@ -1,3 +1,4 @@
 pub mod ColumnsLaws
 pub mod LooksLaws
 pub mod MentionedLaws
+pub mod AbsentLaws
