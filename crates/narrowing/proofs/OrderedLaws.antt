@@ -16,7 +16,7 @@ use Rattle.narrowing.specs.Wide.{wide}
 use Rattle.narrowing.proofs.ColumnsLaws.{extract_below, deposit_below, deposit_rises, extract_deposit, least_full}
 use Rattle.narrowing.proofs.WideLaws.{each_length, narrow_word, full_word, full_onto, full_run, wide_run}
 
-each_snoc : (f : ℕ → ℕ) (w : Word) (a : ℕ) → each f (w ++ (a ∷ [])) ≡ each f w ++ (f a ∷ [])
+pub each_snoc : (f : ℕ → ℕ) (w : Word) (a : ℕ) → each f (w ++ (a ∷ [])) ≡ each f w ++ (f a ∷ [])
 each_snoc f [] a = refl
 each_snoc f (b ∷ w) a = ap (λ u. f b ∷ u) (each_snoc f w a)
 
@@ -95,15 +95,19 @@ module _ (k : ℕ) (s : ℕ → Bool) where
   snoc_leq : (u : Word) (a b : ℕ) → a ≤ b → Leq (u ++ (a ∷ [])) (u ++ (b ∷ []))
   snoc_leq u a b h = elim (ℕ_discrete a b) [ yes e ↦ inl (ap (λ c. u ++ (c ∷ [])) e) | no n ↦ inr (less_last u a b (omega arith)) ]
 
+  -- a narrow word not later than another and a column
+  pub snoc_full : (w u : Word) (b : ℕ) → Columns (size k s) u → Leq w (u ++ (ext b ∷ [])) → Leq (each dep w) (each dep u ++ (b ∷ []))
+  snoc_full w u b c l = leq_trans (each dep w) (each dep u ++ (dep (ext b) ∷ [])) (each dep u ++ (b ∷ []))
+      (subst (Leq (each dep w)) (each_snoc dep u (ext b)) (leq_full w (u ++ (ext b ∷ [])) l (columns_snoc (size k s) u (ext b) c (extract_below k s b))))
+      (snoc_leq (each dep u) (dep (ext b)) b (least_full k s b))
+
   module _ (t : ℕ → ℕ → ℕ) (m : ℕ) where
     pub ranked_wide : Connected (size k s) m t → (ws : ℕ → Word) → Ranked (size k s) m t ws → Ranked k m (wide k s t) (λ j. each dep (ws j))
     ranked_wide g ws r = record {
       empty = ap (each dep) r.empty;
       columns = λ j h. full_word k s (ws j) (r.columns j h);
       arrives = λ j h. full_run k s t 0 (ws j) (r.columns j h) ∙ r.arrives j h;
-      least = λ p b h c. leq_trans (each dep (ws (t p (ext b)))) (each dep (ws p) ++ (dep (ext b) ∷ [])) (each dep (ws p) ++ (b ∷ []))
-          (subst (Leq (each dep (ws (t p (ext b))))) (each_snoc dep (ws p) (ext b)) (leq_full (ws (t p (ext b))) (ws p ++ (ext b ∷ [])) (r.least p (ext b) h (extract_below k s b)) (columns_snoc (size k s) (ws p) (ext b) (r.columns p h) (extract_below k s b))))
-          (snoc_leq (each dep (ws p)) (dep (ext b)) b (least_full k s b));
+      least = λ p b h c. snoc_full (ws (t p (ext b))) (ws p) b (r.columns p h) (r.least p (ext b) h (extract_below k s b));
       sorted = λ p q l h. less_full (r.sorted p q l h) (r.columns q h);
     }
 
