@@ -3,3 +3,6 @@ pub mod WideLaws
 pub mod OrderedLaws
 pub mod SearchLaws
 pub mod PartsLaws
+pub mod LooksLaws
+pub mod MentionedLaws
+pub mod AbsentLaws
