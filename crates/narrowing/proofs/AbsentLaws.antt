@@ -50,11 +50,11 @@ run_but x δ blind (a ∷ u) (b ∷ v) h q =
 
 pub absent_worked : (k n x : ℕ) (c : C) (m : ℕ) (δ : ℕ → ℕ → ℕ) (f : ℕ → Bool) → Worked k n c m δ f → m ≤ n → x < k → mentions c x ≡ false → ((q a : ℕ) (b : Bool) → δ q (put_bit x b a) ≡ δ q a) → Worked k n (some x c) m δ f
 absent_worked k n x c m δ f w few h absent blind = record {
-    table = t;
-    ordered = w.ordered;
-    collapsed = w.collapsed;
-    fits = (w.fits, exact_top k (Apart k (some x c)) m n δ exact few);
-  }
+  table = t;
+  ordered = w.ordered;
+  collapsed = w.collapsed;
+  fits = (w.fits, exact_top k (Apart k (some x c)) m n δ exact few);
+}
   where
     t : Table k (Of (some x c)) m δ f
     t = table_absent x c absent k m δ f w.table
