@@ -1,6 +1,6 @@
 -- From the table of a machine's states over the columns of the claim's own sets, joined, to the
 -- exact table of the claim, or that it does not fit.
-use Rattle.std.proofs.Common.{◌≡◌, ℕ, ◌≤◌, true, Option, None, Some, MatchOption, arith}
+use Rattle.std.proofs.Common.{◌≡◌, ℕ, ◌≤◌, true, Option, None, Some, MatchOption}
 use Rattle.words.specs.Words.{bit}
 use Rattle.kinds.specs.Atoms.{sets_of}
 use Rattle.kinds.specs.Machines.{Machine, Right}

@@ -1,5 +1,6 @@
 // The exact table of a claim without parts: its machine's states are searched, and those that are
-// alike joined.
+// alike joined. The machine looks at one or two sets alone, so it is searched over the columns of
+// these.
 // Two sets that are one make states that are alike, as for `next x x`, so whether the claim fits is
 // known only once they are joined.
 ghost use Rattle.std.specs.Prelude.{◌≡◌, ℕ, ◌+◌, ◌*◌, ◌≤◌, length, MatchOption};
@@ -23,8 +24,8 @@ use worklist::explore::explore;
 /// As many states of a machine are reached at most.
 pub const STATES: usize = 16;
 
-/// The exact table of the claim, written on the sheet: how many classes it has, or that they are
-/// more than the sheet has room for.
+/// The exact table of the claim, over the columns of its own sets, written on the sheet: how many
+/// classes it has, or that they are more than the sheet has room for.
 /// Scratch: a row for each of 16 states, six words for each, and one for each pair of them. What it
 /// held before does not matter.
 pub fn atom_table(

@@ -1,4 +1,3 @@
-use Rattle.std.proofs.Common.{refl}
 use Rattle.atoms.proofs.AtomTableLaws.{atom_exact, no_excess}
 use Rattle.atoms.proofs.atom_table.table.Goals as goal
 
