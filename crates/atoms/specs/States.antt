@@ -1,6 +1,5 @@
 -- A claim without parts: its machine as an automaton over words of the columns of some sets, each
 -- read as the least column of all sets that has it.
-use Rattle.std.specs.Prelude.{}
 use Rattle.kinds.specs.Machines.{Machine}
 use Rattle.selection.specs.Selections.{count, spread}
 use Rattle.selection.specs.declared.selection.Selection.{Selection}
