@@ -1,11 +1,12 @@
-//! Plain Rust answers as the proved call does: on the benchmark's claims of up to six sets, on the proved program's test lines, and on
-//! claims made at random.
+//! Plain Rust answers as the proved call does: on the benchmark's claims whose parts mention up to six sets, on the proved program's test
+//! lines, and on claims made at random.
 
 use std::fs;
 use std::path::Path;
 
 use ceivuron::line::read_line;
 use ceivuron::second::random::Random;
+use ceivuron::second::widths::widest;
 use ceivuron::{Claim, Judge};
 use ceivuron_bench::plain::Plain;
 
@@ -24,7 +25,7 @@ fn answers_alike() {
     let mut compared = 0;
     for line in lines.split(|byte| *byte == b'\n') {
         let Ok(question) = read_line(line) else { continue };
-        if question.claim.bytes().first().is_some_and(|sets| *sets > 6) && question.most > 100 {
+        if question.most > 100 && question.claim.read().is_some_and(|(_, part)| widest(&part) > 6) {
             continue;
         }
         let Ok(answer) = judge.judge(&question.claim, question.most) else { continue };
@@ -40,7 +41,10 @@ fn answers_alike_at_random() {
     for _ in 0..1000 {
         let sets = 1 + random.below(5) as u8;
         let signs = 4 + random.below(60);
-        let claim = Claim::new(sets, &random.counting_claim(sets, signs, 4));
+        let part = random.counting_claim(sets, signs, 4);
+        // some are claims of more sets, any of which they mention
+        let (sets, part) = if random.one_in(3) { random.among_more(sets, &part) } else { (sets, part) };
+        let claim = Claim::new(sets, &part);
         let most = 1 + random.below(300) as u32;
         assert_eq!(plain.judge(claim.bytes(), most), judge.judge(&claim, most).unwrap(), "{most} {claim:?}");
     }
