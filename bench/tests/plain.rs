@@ -5,9 +5,11 @@ use std::fs;
 use std::path::Path;
 
 use ceivuron::line::read_line;
+use ceivuron::part::{and, single};
 use ceivuron::second::random::Random;
 use ceivuron::second::widths::widest;
 use ceivuron::{Claim, Judge};
+use ceivuron_bench::claims::{Sample, few_of, four_of};
 use ceivuron_bench::plain::Plain;
 
 #[test]
@@ -47,5 +49,22 @@ fn answers_alike_at_random() {
         let claim = Claim::new(sets, &part);
         let most = 1 + random.below(300) as u32;
         assert_eq!(plain.judge(claim.bytes(), most), judge.judge(&claim, most).unwrap(), "{most} {claim:?}");
+    }
+}
+
+/// Two sets of one place each: three classes of either, nine of both, with two columns and four. And families of one claim, of more and
+/// more sets of which it does not speak.
+#[test]
+fn sets_that_are_not_mentioned_add_no_cells() {
+    let work = |Sample { sets, part }: Sample| {
+        let mut plain = Plain::default();
+        assert!(!plain.judge(Claim::new(sets, &part).bytes(), 600).to_string().is_empty());
+        (plain.found(), plain.cells())
+    };
+    let (few, four) = (work(few_of(3)), work(four_of(4)));
+    for sets in 4..=12 {
+        assert_eq!(work(Sample { sets, part: and(single(0), single(sets - 1)) }), (15, 36));
+        assert_eq!(work(few_of(sets)), few);
+        assert_eq!(work(four_of(sets)), four);
     }
 }
