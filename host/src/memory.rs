@@ -124,7 +124,7 @@ mod tests {
             // and here one
             (&[12, 5, 6, 2, 6, 1, 5, 3, 0, 2, 3, 2, 1, 1, 0], 3),
         ] {
-            for most in [0, 1, 40, 70_000] {
+            for most in [0, 1, 40, 70_000, 1 << 31, u32::MAX - 200, u32::MAX - 100, u32::MAX] {
                 assert_eq!(floor(bytes, most), words(bytes, sets, most.into()), "{bytes:?}");
             }
         }

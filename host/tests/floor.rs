@@ -39,18 +39,22 @@ fn of_width(sets: u8) -> Vec<Part> {
 #[test]
 fn claims_of_one_to_twelve_sets() {
     let (mut guarded, mut random) = (Guarded::default(), Random::new(1));
+    let (mut many, mut others) = (0, 0);
     for sets in 1..=12 {
         for mentioned in 1..=sets {
             for part in of_width(mentioned) {
                 let claim = Claim::new(sets, &random.among(sets, mentioned, &part));
                 for most in [0, 1, 9] {
-                    check(&mut guarded, claim.bytes(), u32::from(mentioned), most);
+                    match check(&mut guarded, claim.bytes(), u32::from(mentioned), most) {
+                        Verdict::Many => many += 1,
+                        _ => others += 1,
+                    }
                 }
             }
         }
     }
-    // five calls at least for each
-    assert!(guarded.calls > 5 * 3 * 6 * 70, "{} calls", guarded.calls);
+    // with nine classes nearly all are judged
+    assert!(many >= 2 * others && others > 400, "{many} many, {others} others");
 }
 
 /// Of twelve sets it takes what it takes of those that are mentioned, and says the same of them.
