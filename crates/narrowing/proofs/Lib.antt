@@ -1,1 +1,3 @@
 pub mod ColumnsLaws
+pub mod LooksLaws
+pub mod MentionedLaws
