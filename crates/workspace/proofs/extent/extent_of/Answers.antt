@@ -1,0 +1,1 @@
+use Rattle.workspace.proofs.extent.extent_of.Goals as goal

@@ -1,0 +1,1 @@
+use Rattle.workspace.proofs.floor.floor.Goals as goal

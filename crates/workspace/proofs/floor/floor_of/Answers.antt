@@ -1,0 +1,4 @@
+use Rattle.workspace.proofs.floor.floor_of.Goals as goal
+
+pub returns : goal.returns
+returns c = ?

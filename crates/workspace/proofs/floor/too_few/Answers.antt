@@ -1,0 +1,1 @@
+use Rattle.workspace.proofs.floor.too_few.Goals as goal

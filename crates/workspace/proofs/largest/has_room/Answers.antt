@@ -1,0 +1,1 @@
+use Rattle.workspace.proofs.largest.has_room.Goals as goal

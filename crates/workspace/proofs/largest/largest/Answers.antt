@@ -1,0 +1,1 @@
+use Rattle.workspace.proofs.largest.largest.Goals as goal

@@ -1,0 +1,1 @@
+use Rattle.workspace.proofs.part.+read_part.Goals as goal
