@@ -1,6 +1,7 @@
 -- The floor is read from bytes in one way, and is never above what the first byte would ask for.
-use Rattle.std.proofs.Common.{◌≡◌, ℕ, ◌+◌, ◌*◌, ◌^◌, ◌<◌, ◌≤◌, min, List, ◌∷◌, length, refl, sym, ap, ◌∙◌, subst, arith, Some, None, Option, MatchOption}
+use Rattle.std.proofs.Common.{◌≡◌, ℕ, ◌+◌, ◌*◌, ◌%◌, ◌^◌, ◌<◌, ◌≤◌, min, mod-eq_of_lt, List, ◌∷◌, length, refl, sym, ap, ◌∙◌, subst, arith, Some, None, Option, MatchOption}
 use native.Mathlib.Decide.{ℕ_discrete, dec_le}
+use Rattle.std.proofs.Math.Nat.{mul-le-mul_left, one-mul}
 use Rattle.std.proofs.Math.Pow.{pow_mono}
 use Rattle.claims.specs.Claims.{C}
 use Rattle.claims.specs.Rows.{Claim, IsClaim, row}
@@ -37,7 +38,7 @@ never_above s v p = elim (dec_le v (tracks s)) [
 ]
 
 rises : (b n x y : ℕ) → x ≤ y → 8192 + (64 * b + (n + 1) * (16 * x + (256 + n))) ≤ 8192 + (64 * b + (n + 1) * (16 * y + (256 + n)))
-rises b n x y h = let m = mul_mono_le (n + 1) (16 * x + (256 + n)) (16 * y + (256 + n)) (omega arith) in omega arith
+rises b n x y h = let m = mul-le-mul_left {m = 16 * x + (256 + n)} {n = 16 * y + (256 + n)} (n + 1) (omega arith) in omega arith
 
 pub floor_never_above : NeverAbove
 floor_never_above s v n p = rises (length s) n (2 ^ v) (2 ^ tracks s) (pow_mono (never_above s v p))
@@ -55,3 +56,10 @@ none_width s n = record { of_claim = λ k c y. absurd (n (k, c, y)); of_none = �
 pub extent_width : (s : List ℕ) (o : Option Extent) → IsExtent s o → Width s (widest_of o)
 extent_width s None p = none_width s p
 extent_width s (Some e) p = subst (Width s) (sym p.2) (claim_width s e.sets p.0 p.1)
+
+-- the number that the code works out: the columns of v sets by a shift
+pub asked : (s : List ℕ) (v u n m : ℕ) → u ≡ v → u ≤ 12 → m ≡ n → 8192 + (64 * length s + (m + 1) * (16 * (1 * 2 ^ u % 340282366920938463463374607431768211456) + (256 + m))) ≡ floor_words v s n
+asked s v u n m e l i =
+    let p : 2 ^ u ≤ 4096 = pow_mono {i = u} {j = 12} l in
+    let q : 1 * 2 ^ u % 340282366920938463463374607431768211456 ≡ 2 ^ u = mod-eq_of_lt {n = 1 * 2 ^ u} (omega arith) ∙ one-mul (2 ^ u) in
+    rw (q, e, i) refl

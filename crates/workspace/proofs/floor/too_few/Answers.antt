@@ -1,1 +1,0 @@
-use Rattle.workspace.proofs.floor.too_few.Goals as goal

@@ -1,1 +1,0 @@
-use Rattle.workspace.proofs.largest.has_room.Goals as goal

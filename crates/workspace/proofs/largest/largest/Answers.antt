@@ -1,1 +1,0 @@
-use Rattle.workspace.proofs.largest.largest.Goals as goal
