@@ -1,0 +1,3 @@
+mod SelectionLaws
+mod RecolumnLaws
+mod SpellLaws
