@@ -1,12 +1,18 @@
--- The exact table of a claim without parts, on a sheet.
+-- The exact table of a claim without parts, over the columns of its own sets, on a sheet.
 use Rattle.std.specs.Prelude.{◌≡◌, ℕ, ◌≤◌}
 use Rattle.automata.specs.Worked.{Worked}
 use Rattle.claims.specs.Claims.{C}
+use Rattle.narrowing.specs.Wide.{wide}
+use Rattle.selection.specs.Selections.{chosen}
+use Rattle.selection.specs.declared.selection.Selection.{Selection}
 use Rattle.tables.specs.Cells.{entry, accepts}
 use Rattle.tables.specs.declared.sheet.Sheet.{Sheet}
 
--- the sheet was s and is u: claim c's exact table, of m classes, stands on it
-pub record Exact (s u : Sheet) (c : C) (m : ℕ) : Type 0 where
+-- the sheet was s and is u: the table that stands there, of m classes over the columns of these
+-- sets, stands for claim c's exact table
+pub record Exact (sets : Selection) (s u : Sheet) (c : C) (m : ℕ) : Type 0 where
   pub few : m ≤ s.shape.most
-  pub worked : Worked s.shape.sets s.shape.most c m (entry u.rows.now s.shape.width) (accepts u.accept.now)
+  pub worked : Worked sets.of s.shape.most c m (wide sets.of (chosen sets) (entry u.rows.now s.shape.width)) (accepts u.accept.now)
   pub shape : u.shape ≡ s.shape
+  pub rows : u.rows.ghost_name ≡ s.rows.ghost_name
+  pub accept : u.accept.ghost_name ≡ s.accept.ghost_name

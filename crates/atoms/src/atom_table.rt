@@ -24,10 +24,17 @@ pub const STATES: usize = 16;
 /// more than the sheet has room for.
 /// Scratch: a row for each of 16 states, six words for each, and one for each pair of them. What it
 /// held before does not matter.
-pub fn atom_table(atom: Atom, scratch: &mut [u32], sheet: &mut Sheet) -> Option<usize>
-    requires named { sets_of atom ≤ sheet.old.shape.sets }
+pub fn atom_table(
+    atom: Atom,
+    sets: Selection,
+    scratch: &mut [u32],
+    sheet: &mut Sheet,
+) -> Option<usize>
+    requires about { sets_of atom ≤ sets.of }
+    requires mentioned { (z : ℕ) → chosen sets z ≡ named atom z }
+    requires columns { sheet.old.shape.sets ≡ count sets }
     requires scratch { 16 * sheet.old.shape.width + 352 ≤ length scratch.old }
-    ensures { MatchOption result (Fits sheet.old.shape.sets sheet.old.shape.most (claim atom) → ⊥) (Exact sheet.old sheet.new (claim atom)) }
+    ensures { MatchOption result (Fits sets.of sheet.old.shape.most (claim atom) → ⊥) (Exact sets sheet.old sheet.new (claim atom)) }
 {
     match atom {
         Atom::Related(relation) => table(relation, &mut [Residual::Dead; 17], scratch, sheet),

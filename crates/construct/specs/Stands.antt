@@ -1,12 +1,17 @@
--- A claim's table on a sheet, as it is wanted.
-use Rattle.std.specs.Prelude.{◌≡◌, ℕ, ◌≤◌, Bool, Option, MatchOption}
+-- A part's table on a sheet, as it is wanted, over the columns of the sets that the part mentions.
+use Rattle.std.specs.Prelude.{◌≡◌, ℕ, ◌^◌, ◌≤◌, Bool, Option, MatchOption}
 use Rattle.claims.specs.Claims.{C}
 use Rattle.claims.specs.Sizes.{Fits}
 use Rattle.automata.specs.Worked.{Shown, Worked}
+use Rattle.narrowing.specs.Mentioned.{mentions}
+use Rattle.narrowing.specs.Wide.{wide}
+use Rattle.selection.specs.Selections.{chosen, count}
+use Rattle.selection.specs.declared.selection.Selection.{Selection}
 use Rattle.tables.specs.Cells.{entry, accepts}
 use Rattle.tables.specs.View.{moves, accepting}
 use Rattle.tables.specs.declared.cells.WordTable.{WordTable}
 use Rattle.tables.specs.declared.sheet.Sheet.{Sheet}
+use Rattle.construct.specs.declared.part.Part.{Part}
 use Rattle.construct.specs.declared.wanted.Wanted.{Wanted}
 use Rattle.construct.specs.declared.wanted.Wanted.TheVariants.{Exact, Any}
 
@@ -15,15 +20,27 @@ abbrev pub Meets : Wanted → ℕ → ℕ → C → ℕ → (ℕ → ℕ → ℕ
 Meets Exact k n c m δ f = Worked k n c m δ f
 Meets Any k n c m δ f = Shown k n c m δ f
 
--- such a table, of m classes, stands on the sheet
-pub record Stands (wanted : Wanted) (s : Sheet) (c : C) (m : ℕ) : Type 0 where
-  pub few : m ≤ s.shape.most
-  pub meets : Meets wanted s.shape.sets s.shape.most c m (entry s.rows.now s.shape.width) (accepts s.accept.now)
+-- where the table of a part stands on a sheet: in rows of as many columns as its own sets have
+abbrev pub rows_of : Sheet → Part → ℕ → ℕ → ℕ
+rows_of s p = entry s.rows.now (2 ^ count p.sets)
 
--- a table is claim c's exact one, and the claim fits into n
-abbrev pub ExactOf : ℕ → WordTable → C → Type 0
-ExactOf n t c = Worked t.sets n c t.table.classes (moves t.table) (accepting t.table)
+-- the part is claim c about k sets, and its sets are those that the claim mentions; such a table of
+-- the claim is the one for which the table on the sheet stands
+pub record Stands (wanted : Wanted) (k : ℕ) (s : Sheet) (c : C) (p : Part) : Type 0 where
+  pub few : p.classes ≤ s.shape.most
+  pub of : p.sets.of ≡ k
+  pub mentioned : (z : ℕ) → chosen p.sets z ≡ mentions c z
+  pub narrow : count p.sets ≤ s.shape.sets
+  pub meets : Meets wanted p.sets.of s.shape.most c p.classes (wide p.sets.of (chosen p.sets) (rows_of s p)) (accepts s.accept.now)
 
--- what became of a sheet that was s and is u: claim c does not fit, or its table stands there
-abbrev pub Result : Wanted → Sheet → Sheet → C → Option ℕ → Type 0
-Result wanted s u c r = MatchOption r (Fits s.shape.sets s.shape.most c → ⊥) (λ m. (u.shape ≡ s.shape) × Stands wanted u c m)
+-- what became of a sheet that was s and is u: claim c about k sets does not fit, or its table
+-- stands there
+abbrev pub Result : Wanted → ℕ → Sheet → Sheet → C → Option Part → Type 0
+Result wanted k s u c r = MatchOption r (Fits k s.shape.most c → ⊥) (λ p. (u.shape ≡ s.shape) × Stands wanted k u c p)
+
+-- the table of a part, read from the sheet
+pub record Reads (s : Sheet) (p : Part) (t : WordTable) : Type 0 where
+  pub classes : t.table.classes ≡ p.classes
+  pub sets : t.sets ≡ count p.sets
+  pub rows : t.table.rows.now ≡ s.rows.now
+  pub accept : t.table.accept.now ≡ s.accept.now

@@ -2,20 +2,23 @@
 use Rattle.std.specs.Prelude.{ℕ, ◌+◌, ◌*◌, ◌^◌, ◌<◌, ◌≤◌, ◌⊎◌, List, [], length, Option}
 use Rattle.claims.specs.Claims.{C, and1}
 use Rattle.claims.specs.Fronts.{Front}
+use Rattle.narrowing.specs.Mentioned.{widest}
 use Rattle.tables.specs.declared.sheet.Shape.{Shape}
 use Rattle.tables.specs.declared.sheet.Sheet.{Sheet}
 use Rattle.workspace.specs.Cut.{slot_words}
 use Rattle.construct.specs.declared.wanted.Wanted.{Wanted}
+use Rattle.construct.specs.declared.part.Part.{Part}
 use Rattle.construct.specs.Stands.{Result}
 
--- the bytes of a part: one claim about k sets, and nothing behind it
-abbrev pub IsPart : ℕ → List ℕ → Type 0
-IsPart k s = (c : C) × Front k c s []
+-- the bytes of a part: one claim about k sets, none of whose parts mentions more than v, and nothing
+-- behind it
+abbrev pub IsPart : ℕ → ℕ → List ℕ → Type 0
+IsPart k v s = (c : C) × Front k c s [] × (widest k c ≤ v)
 
--- the part with bytes b is worked out as it is wanted, whichever claim it is: on a sheet that was s
--- and is u
-abbrev pub WorkedOut : Wanted → List ℕ → Sheet → Sheet → Option ℕ → Type 0
-WorkedOut wanted b s u r = (c : C) → Front s.shape.sets c b [] → Result wanted s u c r
+-- the part with bytes b is worked out as it is wanted, whichever claim about k sets it is: on a sheet
+-- that was s and is u
+abbrev pub WorkedOut : Wanted → ℕ → List ℕ → Sheet → Sheet → Option Part → Type 0
+WorkedOut wanted k b s u r = (c : C) → Front k c b [] → Result wanted k s u c r
 
 -- the two parts of the and with bytes s, which may stand in either order; the shorter has less than
 -- half of the bytes

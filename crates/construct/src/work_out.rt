@@ -37,11 +37,12 @@ fn two_parts(rest: &[u8], k: u8) -> (&[u8], &[u8])
 /// less than half of the bytes, and finds room behind the table of the longer. So one slot of free
 /// memory for each doubling of the bytes suffices.
 /// The bytes of the part fall with each call.
-pub fn work_out(part: &[u8], wanted: Wanted, sheet: &mut Sheet, work: &mut Work) -> Option<usize>
-    requires part { IsPart sheet.old.shape.sets part.now }
+pub fn work_out(part: &[u8], wanted: Wanted, sheet: &mut Sheet, work: &mut Work) -> Option<Part>
+    requires part { IsPart work.old.sets work.old.shape.sets part.now }
     requires shape { sheet.old.shape ≡ work.old.shape }
     requires lent { Lent (length part.now) work.old.shape (length work.old.free.now) }
-    ensures worked_out { WorkedOut wanted part.now sheet.old sheet.new result }
+    ensures worked_out { WorkedOut wanted work.old.sets part.now sheet.old sheet.new result }
+    ensures sets { work.new.sets ≡ work.old.sets }
     ensures shape { work.new.shape ≡ work.old.shape }
     ensures free { length work.new.free.now ≡ length work.old.free.now }
 {
