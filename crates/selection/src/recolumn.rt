@@ -5,17 +5,45 @@
 // To more sets this is known as cylindrification.
 ghost use Rattle.std.specs.Prelude.{◌≡◌, ℕ, ◌<◌, ◌≤◌, length, slice_index};
 ghost use Rattle.selection.specs.Selections.{count, narrow, spread};
-ghost use Rattle.selection.specs.Recolumn.{Recolumned};
+ghost use Rattle.selection.specs.Recolumn.{Recolumned, Remapped};
 
 use crate::selection::Selection;
-use tables::cells::{Class, WordTable};
+use tables::cells::{Class, Table, WordTable};
 use tables::sheet::Sheet;
+
+// For each of the first `width` columns of the sets of `to`, the column of the sets of `from` that
+// agrees with it.
+// Invariant: the columns before j are mapped.
+fn fill(from: Selection, to: Selection, width: u32, map: &mut [u32])
+    requires { width ≤ length map.old }
+    ensures { (j : ℕ) → j < width → slice_index map.new j ≡ narrow from (spread to j) }
+{
+    for j in 0..width {
+        map[j as usize] = from.narrow(to.spread(j));
+    }
+}
+
+// Writes row q: each column leads where the column on the map does.
+// Invariant: the columns before j are written.
+fn recolumn_row(t: Table, q: usize, map: &[u32], sheet: &mut Sheet)
+    requires class { q < t.classes }
+    requires few { t.classes ≤ sheet.old.shape.most }
+    requires room { sheet.old.shape.width ≤ length map.now }
+    requires below { (j : ℕ) → j < sheet.old.shape.width → slice_index map.now j < t.width }
+    ensures { Remapped t.entry map.now q sheet.old.shape.width sheet.old sheet.new }
+{
+    for j in 0..sheet.shape.width as u32 {
+        let Class(to) = t.next(Class(q as u32), map[j as usize]);
+        sheet.put(q, j, to as usize);
+    }
+}
 
 /// Writes the table, which is over the columns of the sets of `from`, over those of the sets of
 /// `to` on the sheet: each column leads where the column of the sets of `from` does that agrees
 /// with it in the sets of both, and has no other set.
 /// `map` is scratch, a word for each column of the sheet. What sheet and map held before does not
 /// matter.
+// Invariant: the rows before q are written, and which of their classes accept.
 pub fn recolumn(
     t: WordTable,
     from: Selection,
@@ -30,5 +58,9 @@ pub fn recolumn(
     requires map { sheet.old.shape.width ≤ length map.old }
     ensures { Recolumned t.entry from to sheet.old sheet.new }
 {
-    todo!()
+    fill(from, to, sheet.shape.width as u32, map);
+    for q in 0..t.table.classes {
+        recolumn_row(t.table, q, map, sheet);
+        sheet.mark(q, t.table.accepts(Class(q as u32)));
+    }
 }

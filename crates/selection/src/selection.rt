@@ -2,8 +2,9 @@
 // back.
 // Recursion goes set by set, at most twelve deep; an operation asks for each column once and keeps
 // what it is told.
-ghost use Rattle.std.specs.Prelude.{◌≡◌, ℕ, ◌^◌, ◌<◌, ◌≤◌, true, false, Bool, ◌||◌, ◌≢◌};
-ghost use Rattle.narrowing.specs.Columns.{size};
+ghost use Rattle.std.specs.Prelude.{◌≡◌, ℕ, ◌^◌, ◌<◌, ◌≤◌, false, ◌||◌, ◌==◌, ◌≢◌};
+ghost use Rattle.words.specs.Words.{bit};
+ghost use Rattle.narrowing.specs.Columns.{size, extract, deposit};
 
 use words::bits::{Set, has_bit, with_bit, without_bit};
 
@@ -95,5 +96,53 @@ impl Selection {
         ensures below { result < 2 ^ self.of }
     {
         spread_below(self.mask, self.of, column)
+    }
+}
+
+// How many of the first `of` sets have their bit in the mask: one set at a time, the first of them
+// and those behind it.
+fn count_below(mask: u32, of: u32) -> u32
+    ensures value { result ≡ size of (λ x. bit x mask) }
+    ensures few { result ≤ of }
+{
+    if of == 0 {
+        return 0;
+    }
+    let behind = count_below(mask / 2, of - 1);
+    mask % 2 + behind
+}
+
+// The bits of a column of `of` sets that the mask has, moved together: the first set's bit, if the
+// mask has it, goes below those of the sets behind it.
+fn narrow_below(mask: u32, of: u32, column: u32) -> u32
+    requires few { of ≤ 12 }
+    ensures value { result ≡ extract of (λ x. bit x mask) column }
+    ensures below { result < 2 ^ of }
+{
+    if of == 0 {
+        return 0;
+    }
+    let behind = narrow_below(mask / 2, of - 1, column / 2);
+    if mask % 2 == 1 {
+        2 * behind + column % 2
+    } else {
+        behind
+    }
+}
+
+// The bits of a column moved to those places below `of` that the mask has, all others 0: the lowest
+// bit goes to the first set, if the mask has it, and those above it to the sets behind.
+fn spread_below(mask: u32, of: u32, column: u32) -> u32
+    requires few { of ≤ 12 }
+    ensures value { result ≡ deposit of (λ x. bit x mask) column }
+    ensures below { result < 2 ^ of }
+{
+    if of == 0 {
+        return 0;
+    }
+    if mask % 2 == 1 {
+        2 * spread_below(mask / 2, of - 1, column / 2) + column % 2
+    } else {
+        2 * spread_below(mask / 2, of - 1, column)
     }
 }

@@ -1,0 +1,2 @@
+mod SelectionLaws
+mod RecolumnLaws
