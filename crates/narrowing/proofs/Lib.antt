@@ -3,3 +3,5 @@ pub mod WideLaws
 pub mod OrderedLaws
 pub mod SearchLaws
 pub mod PartsLaws
+pub mod LooksLaws
+pub mod MentionedLaws
