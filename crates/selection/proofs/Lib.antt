@@ -1,2 +1,3 @@
 mod SelectionLaws
 mod RecolumnLaws
+mod SpellLaws

@@ -7,9 +7,14 @@ use Rattle.tables.proofs.CellsLaws.{put_here, put_other}
 use Rattle.tables.specs.declared.cells.Table.{Table}
 use Rattle.tables.specs.declared.cells.WordTable.{WordTable}
 use Rattle.tables.specs.declared.sheet.Sheet.{Sheet}
-use Rattle.selection.specs.Selections.{narrow, spread}
+use Rattle.narrowing.proofs.ColumnsLaws.{extract_below}
+use Rattle.selection.specs.Selections.{chosen, count, narrow, spread}
 use Rattle.selection.specs.Recolumn.{Recolumned, Remapped}
 use Rattle.selection.specs.declared.selection.Selection.{Selection}
+
+-- each column on the map is one of the table's
+pub map_below : (t : WordTable) (from to : Selection) (map : List ℕ) (width : ℕ) → t.sets ≡ count from → ((j : ℕ) → j < width → get_or map j 0 ≡ narrow from (spread to j)) → (j : ℕ) → j < width → get_or map j 0 < t.table.width
+map_below t from to map width e filled j h = rw (filled j h, t.wide, e) (extract_below from.of (chosen from) (spread to j))
 
 -- no column is written
 pub remapped_none : {t : Table} {map : List ℕ} {q : ℕ} {s : Sheet} → Remapped t map q 0 s s

@@ -1,5 +1,5 @@
 -- One set of a mask at a time: whether it is chosen, and the sets behind it. And the bits of masks.
-use Rattle.std.proofs.Common.{◌≡◌, ℕ, zero, suc, ◌+◌, ◌-◌, ◌*◌, ◌/◌, ◌%◌, ◌^◌, ◌<◌, ◌≤◌, Bool, true, false, sym, refl, ◌∙◌, inl, inr, pow-suc, arith, max, ◌||◌, eqb, ap}
+use Rattle.std.proofs.Common.{◌≡◌, ℕ, zero, suc, ◌+◌, ◌-◌, ◌*◌, ◌/◌, ◌%◌, ◌^◌, ◌<◌, ◌≤◌, Bool, true, false, refl, ◌∙◌, inl, inr, pow-suc, arith, max, ◌||◌, eqb, ap}
 use lib.Bits.{bit_or, or_step}
 use Rattle.std.proofs.lemmas.Bool.Decides.{eqb_tells}
 use Rattle.words.specs.Words.{bit}

@@ -44,13 +44,7 @@ fn recolumn_row(t: Table, q: usize, map: &[u32], sheet: &mut Sheet)
 /// `map` is scratch, a word for each column of the sheet. What sheet and map held before does not
 /// matter.
 // Invariant: the rows before q are written, and which of their classes accept.
-pub fn recolumn(
-    t: WordTable,
-    from: Selection,
-    to: Selection,
-    map: &mut [u32],
-    sheet: &mut Sheet,
-)
+pub fn recolumn(t: WordTable, from: Selection, to: Selection, map: &mut [u32], sheet: &mut Sheet)
     requires same { from.of ≡ to.of }
     requires from { t.sets ≡ count from }
     requires to { sheet.old.shape.sets ≡ count to }
