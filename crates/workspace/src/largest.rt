@@ -1,6 +1,6 @@
 // How many classes may be told apart with the memory that there is.
 ghost use Rattle.std.specs.Prelude.{◌+◌, ◌<◌, ◌≤◌, ◌↔◌, IsTrue, length};
-ghost use Rattle.workspace.specs.Extents.{Told};
+ghost use Rattle.workspace.specs.Extents.{IsExtent};
 ghost use Rattle.workspace.specs.Floor.{Room, NoRoom};
 
 use crate::extent::{Extent, extent_of};
@@ -11,7 +11,7 @@ pub const MOST_WORDS: u128 = 1048576;
 
 // Whether a claim's work words, its two first words and the copies that are shown fit.
 fn has_room(claim: &[u8], extent: Option<Extent>, most: u32) -> bool
-    requires told { Told claim.now extent }
+    requires told { IsExtent claim.now extent }
     ensures { IsTrue result ↔ Room claim.now most }
 {
     floor_of(claim, extent, most) + 4 * u128::from(most) <= MOST_WORDS

@@ -1,0 +1,5 @@
+use Rattle.workspace.proofs.FloorLaws.{floor_never_above}
+use Rattle.workspace.proofs.floor.floor.Goals as goal
+
+pub returns-clause-never_above : goal.returns-clause-never_above
+returns-clause-never_above c = floor_never_above
