@@ -5,7 +5,7 @@ use Rattle.words.specs.Order.{Less, shorter}
 use Rattle.words.proofs.OrderLaws.{leq_less}
 use Rattle.claims.specs.Claims.{C, Of}
 use Rattle.claims.specs.Rows.{IsClaim}
-use Rattle.workspace.specs.Floor.{Width, floor_words, Room}
+use Rattle.workspace.specs.Floor.{Width, floor_words}
 use Rattle.workspace.proofs.FloorLaws.{one_width}
 use Rattle.lengths.specs.Answer.{First}
 use Rattle.lengths.specs.Says.{JudgedSays, JudgedPost}

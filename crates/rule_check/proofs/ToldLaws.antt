@@ -1,5 +1,5 @@
 -- From what is found of a property's claim to what is told of rows.
-use Rattle.std.proofs.Common.{◌≡◌, ℕ, suc, ◌+◌, ◌*◌, ◌<◌, ◌≤◌, List, [], ◌∷◌, sym, subst}
+use Rattle.std.proofs.Common.{◌≡◌, ℕ, suc, ◌+◌, ◌<◌, ◌≤◌, List, [], ◌∷◌, sym, subst}
 use Rattle.words.specs.Words.{Sets, Word, Columns, sets}
 use Rattle.claims.specs.Claims.{Holds, not1, within as lies_within}
 use Rattle.formulas.specs.declared.formula.Formula.{Formula}

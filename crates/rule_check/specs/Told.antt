@@ -1,5 +1,5 @@
 -- What an answer on a property says of rows, however long.
-use Rattle.std.specs.Prelude.{◌≡◌, ℕ, suc, ◌+◌, ◌*◌, ◌<◌, ◌≤◌, ◌∷◌}
+use Rattle.std.specs.Prelude.{◌≡◌, ℕ, suc, ◌+◌, ◌<◌, ◌≤◌, ◌∷◌}
 use Rattle.words.specs.Words.{Word, Columns}
 use Rattle.claims.specs.Claims.{C, Of}
 use Rattle.claims.specs.Sizes.{Fits}

@@ -1,4 +1,4 @@
-use Rattle.std.proofs.Common.{◌≡◌, ℕ, suc, ◌+◌, ◌*◌, ◌<◌, ◌∷◌, List, refl, sym, subst, arith}
+use Rattle.std.proofs.Common.{◌≡◌, ℕ, suc, ◌+◌, ◌<◌, ◌∷◌, List, refl, sym, subst, arith}
 use Rattle.claims.specs.Claims.{C}
 use Rattle.claims.specs.Rows.{row, Claim}
 use Rattle.claims.specs.Encoded.{sets_needed}
