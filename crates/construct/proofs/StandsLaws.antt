@@ -1,7 +1,8 @@
 -- A claim's table on a sheet: what a reader of it needs, and that the two parts of an and may be
 -- worked out in either order.
 use Rattle.std.proofs.Common.{◌≡◌, ℕ, ◌*◌, ◌^◌, ◌<◌, ◌≤◌, Bool, true, false, ◌||◌, List, [], length, None, Some, Option, sym, refl, ap, ◌∙◌, subst, arith}
-use Rattle.std.proofs.lemmas.Nat.{mul-le, pow-le}
+use Rattle.std.proofs.Math.Pow.{pow_mono}
+use Rattle.std.proofs.lemmas.Nat.{mul-le}
 use Rattle.claims.specs.Claims.{C, Of, and1, atom, not1, some}
 use Rattle.claims.specs.Fronts.{Front}
 use Rattle.claims.specs.Sizes.{Fits, Top}
@@ -19,11 +20,12 @@ use Rattle.selection.specs.Selections.{chosen, count}
 use Rattle.tables.specs.Cells.{accepts, entry}
 use Rattle.tables.specs.View.{moves, accepting}
 use Rattle.tables.specs.declared.cells.WordTable.{WordTable}
+use Rattle.tables.specs.declared.sheet.Shape.{Shape}
 use Rattle.tables.specs.declared.sheet.Sheet.{Sheet}
 use Rattle.construct.specs.declared.wanted.Wanted.{Wanted}
 use Rattle.construct.specs.declared.wanted.Wanted.TheVariants.{Exact, Any}
 use Rattle.construct.specs.declared.part.Part.{Part}
-use Rattle.construct.specs.Stands.{Meets, Reads, Result, Stands, rows_of}
+use Rattle.construct.specs.Stands.{Meets, Reads, Result, Held, Stands}
 use Rattle.construct.specs.WorkOut.{WorkedOut}
 
 -- What tables as they are wanted have in common.
@@ -42,7 +44,7 @@ meets_fits Any k n c m δ f t = t.fits
 -- What a reader of the table needs.
 module _ (wanted : Wanted) (k : ℕ) (s : Sheet) (c : C) (p : Part) (t : Stands wanted k s c p) where
   abbrev full : ℕ → ℕ → ℕ
-  full = wide p.sets.of (chosen p.sets) (rows_of s p)
+  full = wide p.sets.of (chosen p.sets) (entry s.rows.now (2 ^ count p.sets))
 
   pub stands_table : Table p.sets.of (Of c) p.classes full (accepts s.accept.now)
   stands_table = meets_table wanted p.sets.of s.shape.most c p.classes full (accepts s.accept.now) t.meets
@@ -53,8 +55,8 @@ module _ (wanted : Wanted) (k : ℕ) (s : Sheet) (c : C) (p : Part) (t : Stands 
   pub stands_fits : Fits k s.shape.most c
   stands_fits = subst (λ k. Fits k s.shape.most c) t.of (meets_fits wanted p.sets.of s.shape.most c p.classes full (accepts s.accept.now) t.meets)
 
-  stands_narrow : Connected (count p.sets) p.classes (rows_of s p)
-  stands_narrow = connected_narrow p.sets.of (chosen p.sets) (rows_of s p) p.classes stands_table.connected
+  stands_narrow : Connected (count p.sets) p.classes (entry s.rows.now (2 ^ count p.sets))
+  stands_narrow = connected_narrow p.sets.of (chosen p.sets) (entry s.rows.now (2 ^ count p.sets)) p.classes stands_table.connected
 
   pub stands_start : 0 < p.classes
   stands_start = stands_narrow.start
@@ -69,7 +71,7 @@ module _ (wanted : Wanted) (k : ℕ) (s : Sheet) (c : C) (p : Part) (t : Stands 
 
     pub stands_rows : p.classes * w ≤ length s.rows.now
     stands_rows =
-        let o = pow-le 2 (count p.sets) s.shape.sets (omega arith) t.narrow in
+        let o = pow_mono t.narrow in
         let g : w ≤ s.shape.width = rw (w_is, s.shape.wide) o in
         let m = mul-le p.classes w s.shape.most s.shape.width t.few g in
         omega (arith, s.rows_fit)
@@ -83,10 +85,31 @@ module _ (k : ℕ) (s : Sheet) (c : C) (p : Part) (t : Stands Exact k s c p) (r 
   pub reads_worked : Worked k s.shape.most c r.table.classes (wide k (chosen p.sets) (moves r.table)) (accepting r.table)
   reads_worked = rw (h.classes, reads_width, h.rows, h.accept, ← t.of) t.meets
 
+-- A table that was written into rows of w columns, for a part that fits the shape.
+pub held_made : (wanted : Wanted) (k : ℕ) (h : Shape) (rows accept : List ℕ) (c : C) (p : Part) (n w : ℕ) → p.sets.of ≡ k → ((z : ℕ) → chosen p.sets z ≡ mentions c z) → count p.sets ≤ h.sets → n ≡ h.most → p.classes ≤ n → w ≡ 2 ^ count p.sets → Meets wanted k n c p.classes (wide k (chosen p.sets) (entry rows w)) (accepts accept) → Held wanted k h rows accept c p
+held_made wanted k h rows accept c p n w of mentioned narrow most few width m = record {
+  few = subst (λ n. p.classes ≤ n) most few;
+  of = of;
+  mentioned = mentioned;
+  narrow = narrow;
+  meets = subst (λ k. Meets wanted k h.most c p.classes (wide k (chosen p.sets) (entry rows (2 ^ count p.sets))) (accepts accept)) (sym of)
+      (subst (λ n. Meets wanted k n c p.classes (wide k (chosen p.sets) (entry rows (2 ^ count p.sets))) (accepts accept)) most
+      (subst (λ w. Meets wanted k n c p.classes (wide k (chosen p.sets) (entry rows w)) (accepts accept)) width m));
+}
+
 -- an exact table is what is wanted, whatever that is
 pub exact_meets : (wanted : Wanted) (k n : ℕ) (c : C) (m : ℕ) (δ : ℕ → ℕ → ℕ) (f : ℕ → Bool) → Worked k n c m δ f → Meets wanted k n c m δ f
 exact_meets Exact k n c m δ f t = t
 exact_meets Any k n c m δ f t = record { table = t.table; ordered = t.ordered; fits = t.fits }
+
+pub stands_wanted : (wanted : Wanted) (k : ℕ) (u : Sheet) (c : C) (p : Part) → Stands Exact k u c p → Stands wanted k u c p
+stands_wanted wanted k u c p t = record {
+  few = t.few;
+  of = t.of;
+  mentioned = t.mentioned;
+  narrow = t.narrow;
+  meets = exact_meets wanted p.sets.of u.shape.most c p.classes (wide p.sets.of (chosen p.sets) (entry u.rows.now (2 ^ count p.sets))) (accepts u.accept.now) t.meets;
+}
 
 -- Bytes are one claim only, so a result for that claim is one for the bytes.
 pub out_of : (wanted : Wanted) (k : ℕ) (d : C) (b : List ℕ) (s u : Sheet) (r : Option Part) → Front k d b [] → Result wanted k s u d r → WorkedOut wanted k b s u r
@@ -123,7 +146,7 @@ result_swap wanted k s u c d (Some p) y = (
     of = y.1.of;
     mentioned = λ z. y.1.mentioned z ∙ or_swap (mentions c z) (mentions d z);
     narrow = y.1.narrow;
-    meets = meets_swap wanted p.sets.of u.shape.most c d p.classes (wide p.sets.of (chosen p.sets) (rows_of u p)) (accepts u.accept.now) y.1.meets;
+    meets = meets_swap wanted p.sets.of u.shape.most c d p.classes (wide p.sets.of (chosen p.sets) (entry u.rows.now (2 ^ count p.sets))) (accepts u.accept.now) y.1.meets;
   },
 )
 
