@@ -10,11 +10,11 @@ use Rattle.claims.proofs.OneClaim.{one_claim}
 use Rattle.narrowing.specs.Mentioned.{widest}
 use Rattle.narrowing.proofs.MentionedLaws.{widest_fits}
 use Rattle.workspace.specs.Extents.{IsExtent, widest_of}
-use Rattle.workspace.specs.Floor.{Width, floor_words, tracks, NeverAbove}
+use Rattle.workspace.specs.Floor.{Width, OneWidth, floor_words, tracks, NeverAbove}
 use Rattle.workspace.specs.declared.extent.Extent.{Extent}
 
 -- bytes have one width: if there were two, they would be no claim
-pub one_width : (s : List ℕ) (v w : ℕ) → Width s v → Width s w → v ≡ w
+pub one_width : OneWidth
 one_width s v w p q = elim (ℕ_discrete v w) [
   | yes e ↦ e
   | no n ↦

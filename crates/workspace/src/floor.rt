@@ -1,7 +1,7 @@
 // How many work words the call asks for.
 ghost use Rattle.std.specs.Prelude.{◌≡◌, ◌↔◌, ◌<◌, ◌≤◌, ℕ, IsTrue};
 ghost use Rattle.workspace.specs.Extents.{IsExtent, widest_of};
-ghost use Rattle.workspace.specs.Floor.{Width, floor_words, NeverAbove};
+ghost use Rattle.workspace.specs.Floor.{Width, OneWidth, floor_words, NeverAbove};
 
 use crate::extent::{Extent, extent_of};
 
@@ -38,6 +38,7 @@ pub fn too_few(words: usize, claim: &[u8], extent: Option<Extent>, most: u32) ->
 /// The work words that the call asks for. For the largest `most` this passes 2^64.
 pub fn floor(claim: &[u8], most: u32) -> u128
     ensures value { (v : ℕ) × Width claim.now v × (result ≡ floor_words v claim.now most) }
+    ensures one { OneWidth }
     ensures never_above { NeverAbove }
 {
     floor_of(claim, extent_of(claim), most)
