@@ -1,5 +1,5 @@
 -- Which formulas are large, and which are not.
-use Rattle.std.proofs.Common.{◌≡◌, ℕ, ◌+◌, ◌*◌, ◌≤◌, ◌↔◌, Bool, true, false, IsTrue, List, [], ◌∷◌, length, inl, inr, sym, subst, ap, ◌∙◌, arith}
+use Rattle.std.proofs.Common.{◌≡◌, ℕ, ◌↔◌, Bool, true, false, IsTrue, List, [], ◌∷◌, length, inl, inr, sym, subst, ap, ◌∙◌, arith}
 use mathlib.Core.Bool.{false≢true}
 use Rattle.workspace.specs.Floor.{Room}
 use Rattle.claims.proofs.ClaimLaws.{claim_bounds}
