@@ -4,12 +4,13 @@ ghost use Rattle.lengths.specs.Says.{JudgedPost};
 
 use crate::answer::answer;
 use crate::judged::Judged;
-use claims::claim::claim_sets;
+use construct::part::table;
 use construct::wanted::Wanted;
 use construct::work::Work;
 use construct::work_out::work_out;
 use tables::sheet::{Shape, Sheet};
 use workspace::cut::{Slot, cut_slot};
+use workspace::extent::{Extent, extent_of};
 use workspace::floor::too_few;
 
 // Whether the claim holds of all words, of none, or of which first; `most` is the largest number of
@@ -19,27 +20,28 @@ use workspace::floor::too_few;
 pub fn judge(claim: &[u8], most: u32, out: &mut [u32], work: &mut [u32]) -> Judged
     ensures { JudgedPost claim.now most out.old out.new (length work.old) result }
 {
-    if too_few(work.len(), claim, most) {
+    let extent = extent_of(claim);
+    if too_few(work.len(), claim, extent, most) {
         return Judged::Few;
     }
-    let Some(k) = claim_sets(claim) else {
+    let Some(Extent { sets, widest }) = extent else {
         return Judged::NoClaim;
     };
     if most == 0 {
         return Judged::Many;
     }
     let n = most as usize;
-    let shape = Shape::new(n, u32::from(k));
+    let shape = Shape::new(n, u32::from(widest));
     let Slot { rows, accept, rest } = cut_slot(work, shape.width, n);
     let mut sheet = Sheet {
         rows,
         accept,
         shape,
     };
-    let mut inner = Work::cut(shape, rest);
-    let Some(m) = work_out(&claim[1..], Wanted::Any, &mut sheet, &mut inner) else {
+    let mut inner = Work::cut(u32::from(sets), shape, rest);
+    let Some(part) = work_out(&claim[1..], Wanted::Any, &mut sheet, &mut inner) else {
         return Judged::Many;
     };
     let scratch = inner.scratch;
-    answer(sheet.table(m), scratch, out)
+    answer(table(&sheet, part), part.sets, scratch, out)
 }

@@ -1,17 +1,27 @@
 // How many classes may be told apart with the memory that there is.
-ghost use Rattle.std.specs.Prelude.{◌+◌, ◌*◌, ◌<◌, ◌≤◌, ◌↔◌, IsTrue, length};
-ghost use Rattle.workspace.specs.Floor.{floor_words};
+ghost use Rattle.std.specs.Prelude.{◌+◌, ◌<◌, ◌≤◌, ◌↔◌, IsTrue, length};
+ghost use Rattle.workspace.specs.Extents.{IsExtent};
+ghost use Rattle.workspace.specs.Floor.{Room, NoRoom};
 
-use crate::floor::floor;
+use crate::extent::{Extent, extent_of};
+use crate::floor::floor_of;
 
 /// The words of all buffers: 4 MiB.
 pub const MOST_WORDS: u128 = 1048576;
 
+// Whether a claim's work words, its two first words and the copies that are shown fit.
+fn has_room(claim: &[u8], extent: Option<Extent>, most: u32) -> bool
+    requires told { IsExtent claim.now extent }
+    ensures { IsTrue result ↔ Room claim.now most }
+{
+    floor_of(claim, extent, most) + 4 * u128::from(most) <= MOST_WORDS
+}
+
 /// Whether a claim's work words, its two first words and the copies that are shown fit.
 pub fn fits(claim: &[u8], most: u32) -> bool
-    ensures { IsTrue result ↔ (floor_words claim.now most + 4 * most ≤ 1048576) }
+    ensures { IsTrue result ↔ Room claim.now most }
 {
-    floor(claim, most) + 4 * u128::from(most) <= MOST_WORDS
+    has_room(claim, extent_of(claim), most)
 }
 
 /// The largest number of classes up to `most` that fits. The invariant: so many classes fit; of no
@@ -19,11 +29,12 @@ pub fn fits(claim: &[u8], most: u32) -> bool
 pub fn largest(claim: &[u8], most: u32) -> u32
     requires { length claim.now ≤ 1024 }
     ensures within { result ≤ most }
-    ensures fits { floor_words claim.now result + 4 * result ≤ 1048576 }
-    ensures largest { result < most → 1048576 < floor_words claim.now (result + 1) + 4 * (result + 1) }
+    ensures fits { Room claim.now result }
+    ensures largest { result < most → NoRoom claim.now (result + 1) }
 {
+    let extent = extent_of(claim);
     let mut n = 0;
-    while n < most && fits(claim, n + 1) {
+    while n < most && has_room(claim, extent, n + 1) {
         n += 1;
     }
     n
