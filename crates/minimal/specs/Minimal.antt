@@ -1,12 +1,12 @@
 -- The smallest automaton of a claim, or why there is none.
-use Rattle.std.specs.Prelude.{ℕ, ◌≡◌, ◌+◌, ◌*◌, ◌<◌, ◌≤◌, Bool, List}
+use Rattle.std.specs.Prelude.{ℕ, ◌≡◌, ◌+◌, ◌<◌, ◌≤◌, Bool, List}
 use Rattle.words.specs.Words.{Word}
 use Rattle.claims.specs.Claims.{C, Of}
 use Rattle.claims.specs.Sizes.{Fits}
 use Rattle.claims.specs.Rows.{Claim, IsClaim}
 use Rattle.automata.specs.Search.{Ranked}
 use Rattle.automata.specs.Tables.{Table, Collapsed}
-use Rattle.workspace.specs.Floor.{floor_words}
+use Rattle.workspace.specs.Floor.{NoRoom}
 use Rattle.minimal.specs.View.{states, leads, accepts}
 use Rattle.minimal.specs.declared.automaton.Automaton.{Automaton}
 use Rattle.minimal.specs.declared.refusal.Refusal.{Refusal}
@@ -40,7 +40,7 @@ pub record TooMany (s : List ℕ) (most n : ℕ) : Type 0 where
   pub claim : IsClaim s
   pub many : (k : ℕ) (c : C) → Claim s k c → Fits k n c → ⊥
   pub within : n ≤ most
-  pub memory : n < most → 1048576 < floor_words s (n + 1) + 4 * (n + 1)
+  pub memory : n < most → NoRoom s (n + 1)
 
 abbrev pub Refused : List ℕ → ℕ → Refusal → Type 0
 Refused s most NoClaim = IsClaim s → ⊥
