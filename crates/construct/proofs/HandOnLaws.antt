@@ -1,7 +1,14 @@
 -- A table that is handed on: joined it is exact, and copied it says what it said.
-use Rattle.std.proofs.Common.{◌≡◌, ℕ, ◌<◌, ◌≤◌, subst, ◌∙◌, sym, ap, ◌^◌}
+use Rattle.std.proofs.Common.{◌≡◌, ℕ, ◌<◌, ◌≤◌, Bool, subst, ◌∙◌, sym, ap, ◌^◌}
+use Rattle.automata.specs.Joined.{Joined, Written}
+use Rattle.automata.specs.Worked.{Shown, Worked}
 use Rattle.automata.proofs.Working.{joined_worked, shown_same}
+use Rattle.claims.specs.Claims.{C}
 use Rattle.minimize.specs.Join.{Minimized}
+use Rattle.narrowing.specs.Columns.{size, extract}
+use Rattle.narrowing.specs.Wide.{wide}
+use Rattle.narrowing.proofs.ColumnsLaws.{extract_below}
+use Rattle.narrowing.proofs.WideLaws.{joined_wide, written_wide}
 use Rattle.tables.specs.Cells.{entry, accepts}
 use Rattle.tables.specs.View.{moves, accepting}
 use Rattle.tables.specs.declared.cells.WordTable.{WordTable}
@@ -9,25 +16,30 @@ use Rattle.tables.specs.declared.sheet.Sheet.{Sheet}
 use Rattle.construct.specs.declared.wanted.Wanted.TheVariants.{Exact, Any}
 use Rattle.construct.specs.HandOn.{HandedOn}
 
+-- over narrow columns, joined
+joined_narrow : (k n : ℕ) (x : ℕ → Bool) (c : C) (m v : ℕ) (t : ℕ → ℕ → ℕ) (f : ℕ → Bool) → v ≡ size k x → Shown k n c m (wide k x t) f → (cls rep : ℕ → ℕ) (r : ℕ) → Joined v m t f cls rep r → (t' : ℕ → ℕ → ℕ) (f' : ℕ → Bool) → Written v t f cls rep r t' f' → Worked k n c r (wide k x t') f'
+joined_narrow k n x c m v t f e h cls rep r j t' f' w =
+    joined_worked k n c m (wide k x t) f h cls rep r (joined_wide k x t f m cls rep r (subst (λ v. Joined v m t f cls rep r) e j)) (wide k x t') f' (written_wide k x t f cls rep r t' f' (subst (λ v. Written v t f cls rep r t' f') e w))
+
 module _ (t : WordTable) (s u : Sheet) (sets : t.sets ≡ s.shape.sets) where
   pub handed_minimized : (r : ℕ) → Minimized t s u r → HandedOn Exact t s u r
   handed_minimized r j = record {
+    few = j.few;
+    meets = λ k x c e h. joined_narrow k s.shape.most x c t.table.classes t.sets (moves t.table) (accepting t.table) e h j.joins.cls j.joins.rep r j.joins.joined (entry u.rows.now s.shape.width) (accepts u.accept.now) j.written;
     shape = j.shape;
-    stands = λ c h. record {
-      few = rw j.shape j.few;
-      meets = rw (j.shape, ← sets) (joined_worked t.sets s.shape.most c t.table.classes (moves t.table) (accepting t.table) h j.joins.cls j.joins.rep r j.joins.joined (entry u.rows.now s.shape.width) (accepts u.accept.now) j.written);
-    };
+    rows = j.rows;
+    accept = j.accept;
   }
 
   width : s.shape.width ≡ t.table.width
   width = s.shape.wide ∙ ap (λ k. 2 ^ k) (sym sets) ∙ sym t.wide
 
-  pub handed_copied : u.shape ≡ s.shape → t.table.classes ≤ s.shape.most → ((q a : ℕ) → q < t.table.classes → a < t.table.width → entry u.rows.now t.table.width q a ≡ moves t.table q a) → ((q : ℕ) → q < t.table.classes → accepts u.accept.now q ≡ accepting t.table q) → HandedOn Any t s u t.table.classes
-  handed_copied shape few leads ends = record {
+  pub handed_copied : u.shape ≡ s.shape → u.rows.ghost_name ≡ s.rows.ghost_name → u.accept.ghost_name ≡ s.accept.ghost_name → t.table.classes ≤ s.shape.most → ((q a : ℕ) → q < t.table.classes → a < t.table.width → entry u.rows.now t.table.width q a ≡ moves t.table q a) → ((q : ℕ) → q < t.table.classes → accepts u.accept.now q ≡ accepting t.table q) → HandedOn Any t s u t.table.classes
+  handed_copied shape rows accept few leads ends = record {
+    few = few;
+    meets = λ k x c e h. rw width (shown_same k s.shape.most c t.table.classes (wide k x (moves t.table)) (wide k x (entry u.rows.now t.table.width)) (accepting t.table) (accepts u.accept.now) h
+        (λ q a g b. leads q (extract k x a) g (subst (λ w. extract k x a < w) (sym (t.wide ∙ ap (λ v. 2 ^ v) e)) (extract_below k x a))) ends);
     shape = shape;
-    stands = λ c h. record {
-      few = rw shape few;
-      meets = rw (shape, width, ← sets) (shown_same t.sets s.shape.most c t.table.classes (moves t.table) (entry u.rows.now t.table.width) (accepting t.table) (accepts u.accept.now) h
-          (subst (λ w. (q a : ℕ) → q < t.table.classes → a < w → entry u.rows.now t.table.width q a ≡ moves t.table q a) t.wide leads) ends);
-    };
+    rows = rows;
+    accept = accept;
   }

@@ -1,44 +1,87 @@
 -- A claim's table on a sheet: what a reader of it needs, and that the two parts of an and may be
 -- worked out in either order.
-use Rattle.std.proofs.Common.{◌≡◌, ℕ, ◌<◌, Bool, List, [], None, Some, Option, ◌∙◌, subst, arith}
+use Rattle.std.proofs.Common.{◌≡◌, ℕ, ◌*◌, ◌^◌, ◌<◌, ◌≤◌, Bool, true, false, ◌||◌, List, [], length, None, Some, Option, sym, refl, ap, ◌∙◌, subst, arith}
+use Rattle.std.proofs.lemmas.Nat.{mul-le, pow-le}
 use Rattle.claims.specs.Claims.{C, Of, and1, atom, not1, some}
 use Rattle.claims.specs.Fronts.{Front}
 use Rattle.claims.specs.Sizes.{Fits, Top}
 use Rattle.claims.proofs.FrontLaws.{same_front}
 use Rattle.automata.specs.Search.{Ordered}
-use Rattle.automata.specs.Tables.{Table}
+use Rattle.automata.specs.Tables.{Connected, Table}
 use Rattle.automata.specs.Worked.{Worked}
 use Rattle.automata.proofs.Counting.{nth_below}
+use Rattle.automata.proofs.FirstWords.{ordered_same}
+use Rattle.automata.proofs.Tables.{collapsed_same, table_same}
+use Rattle.narrowing.specs.Mentioned.{mentions}
+use Rattle.narrowing.specs.Wide.{wide}
+use Rattle.narrowing.proofs.WideLaws.{connected_narrow}
+use Rattle.selection.specs.Selections.{chosen, count}
 use Rattle.tables.specs.Cells.{accepts, entry}
-use Rattle.tables.specs.Sheets.{Shows}
+use Rattle.tables.specs.View.{moves, accepting}
 use Rattle.tables.specs.declared.cells.WordTable.{WordTable}
 use Rattle.tables.specs.declared.sheet.Sheet.{Sheet}
 use Rattle.construct.specs.declared.wanted.Wanted.{Wanted}
 use Rattle.construct.specs.declared.wanted.Wanted.TheVariants.{Exact, Any}
-use Rattle.construct.specs.Stands.{ExactOf, Meets, Result, Stands}
+use Rattle.construct.specs.declared.part.Part.{Part}
+use Rattle.construct.specs.Stands.{Meets, Reads, Result, Stands, rows_of}
 use Rattle.construct.specs.WorkOut.{WorkedOut}
 
+-- What tables as they are wanted have in common.
+meets_table : (wanted : Wanted) (k n : ℕ) (c : C) (m : ℕ) (δ : ℕ → ℕ → ℕ) (f : ℕ → Bool) → Meets wanted k n c m δ f → Table k (Of c) m δ f
+meets_table Exact k n c m δ f t = t.table
+meets_table Any k n c m δ f t = t.table
+
+meets_ordered : (wanted : Wanted) (k n : ℕ) (c : C) (m : ℕ) (δ : ℕ → ℕ → ℕ) (f : ℕ → Bool) → Meets wanted k n c m δ f → Ordered k m δ
+meets_ordered Exact k n c m δ f t = t.ordered
+meets_ordered Any k n c m δ f t = t.ordered
+
+meets_fits : (wanted : Wanted) (k n : ℕ) (c : C) (m : ℕ) (δ : ℕ → ℕ → ℕ) (f : ℕ → Bool) → Meets wanted k n c m δ f → Fits k n c
+meets_fits Exact k n c m δ f t = t.fits
+meets_fits Any k n c m δ f t = t.fits
+
 -- What a reader of the table needs.
-pub stands_table : (wanted : Wanted) (s : Sheet) (c : C) (m : ℕ) → Stands wanted s c m → Table s.shape.sets (Of c) m (entry s.rows.now s.shape.width) (accepts s.accept.now)
-stands_table Exact s c m t = t.meets.table
-stands_table Any s c m t = t.meets.table
+module _ (wanted : Wanted) (k : ℕ) (s : Sheet) (c : C) (p : Part) (t : Stands wanted k s c p) where
+  abbrev full : ℕ → ℕ → ℕ
+  full = wide p.sets.of (chosen p.sets) (rows_of s p)
 
-pub stands_ordered : (wanted : Wanted) (s : Sheet) (c : C) (m : ℕ) → Stands wanted s c m → Ordered s.shape.sets m (entry s.rows.now s.shape.width)
-stands_ordered Exact s c m t = t.meets.ordered
-stands_ordered Any s c m t = t.meets.ordered
+  pub stands_table : Table p.sets.of (Of c) p.classes full (accepts s.accept.now)
+  stands_table = meets_table wanted p.sets.of s.shape.most c p.classes full (accepts s.accept.now) t.meets
 
-pub stands_below : (wanted : Wanted) (s : Sheet) (c : C) (m : ℕ) → Stands wanted s c m → (q a : ℕ) → q < m → a < s.shape.width → entry s.rows.now s.shape.width q a < m
-stands_below wanted s c m t q a h g = (stands_table wanted s c m t).connected.closed q a h (subst (λ z. a < z) s.shape.wide g)
+  pub stands_ordered : Ordered p.sets.of p.classes full
+  stands_ordered = meets_ordered wanted p.sets.of s.shape.most c p.classes full (accepts s.accept.now) t.meets
 
-pub stands_start : (wanted : Wanted) (s : Sheet) (c : C) (m : ℕ) → Stands wanted s c m → 0 < m
-stands_start wanted s c m t = (stands_table wanted s c m t).connected.start
+  pub stands_fits : Fits k s.shape.most c
+  stands_fits = subst (λ k. Fits k s.shape.most c) t.of (meets_fits wanted p.sets.of s.shape.most c p.classes full (accepts s.accept.now) t.meets)
 
-pub stands_fits : (wanted : Wanted) (s : Sheet) (c : C) (m : ℕ) → Stands wanted s c m → Fits s.shape.sets s.shape.most c
-stands_fits Exact s c m t = t.meets.fits
-stands_fits Any s c m t = t.meets.fits
+  stands_narrow : Connected (count p.sets) p.classes (rows_of s p)
+  stands_narrow = connected_narrow p.sets.of (chosen p.sets) (rows_of s p) p.classes stands_table.connected
 
-pub stands_exact : (s : Sheet) (c : C) (m : ℕ) → Stands Exact s c m → (r : WordTable) → Shows s m r → ExactOf s.shape.most r c
-stands_exact s c m t r h = rw (h.sets, h.classes, h.width, h.rows, h.accept) t.meets
+  pub stands_start : 0 < p.classes
+  stands_start = stands_narrow.start
+
+  -- its rows are those of a table with as many columns as it has sets
+  module _ (v w : ℕ) (e : v ≡ count p.sets) (f : w ≡ 2 ^ v) where
+    w_is : w ≡ 2 ^ count p.sets
+    w_is = f ∙ ap (λ v. 2 ^ v) e
+
+    pub stands_below : (q a : ℕ) → q < p.classes → a < w → entry s.rows.now w q a < p.classes
+    stands_below = subst (λ w. (q a : ℕ) → q < p.classes → a < w → entry s.rows.now w q a < p.classes) (sym w_is) stands_narrow.closed
+
+    pub stands_rows : p.classes * w ≤ length s.rows.now
+    stands_rows =
+        let o = pow-le 2 (count p.sets) s.shape.sets (omega arith) t.narrow in
+        let g : w ≤ s.shape.width = rw (w_is, s.shape.wide) o in
+        let m = mul-le p.classes w s.shape.most s.shape.width t.few g in
+        omega (arith, s.rows_fit)
+
+-- The table that is read.
+module _ (k : ℕ) (s : Sheet) (c : C) (p : Part) (t : Stands Exact k s c p) (r : WordTable) (h : Reads s p r) where
+  pub reads_width : r.table.width ≡ 2 ^ count p.sets
+  reads_width = r.wide ∙ ap (λ v. 2 ^ v) h.sets
+
+  -- over the full columns for which its own stand
+  pub reads_worked : Worked k s.shape.most c r.table.classes (wide k (chosen p.sets) (moves r.table)) (accepting r.table)
+  reads_worked = rw (h.classes, reads_width, h.rows, h.accept, ← t.of) t.meets
 
 -- an exact table is what is wanted, whatever that is
 pub exact_meets : (wanted : Wanted) (k n : ℕ) (c : C) (m : ℕ) (δ : ℕ → ℕ → ℕ) (f : ℕ → Bool) → Worked k n c m δ f → Meets wanted k n c m δ f
@@ -46,8 +89,8 @@ exact_meets Exact k n c m δ f t = t
 exact_meets Any k n c m δ f t = record { table = t.table; ordered = t.ordered; fits = t.fits }
 
 -- Bytes are one claim only, so a result for that claim is one for the bytes.
-pub out_of : (wanted : Wanted) (d : C) (b : List ℕ) (s u : Sheet) (r : Option ℕ) → Front s.shape.sets d b [] → Result wanted s u d r → WorkedOut wanted b s u r
-out_of wanted d b s u r f y c g = subst (λ t. Result wanted s u t r) (same_front s.shape.sets s.shape.sets d c b [] [] f g).0 y
+pub out_of : (wanted : Wanted) (k : ℕ) (d : C) (b : List ℕ) (s u : Sheet) (r : Option Part) → Front k d b [] → Result wanted k s u d r → WorkedOut wanted k b s u r
+out_of wanted k d b s u r f y c g = subst (λ t. Result wanted k s u t r) (same_front k k d c b [] [] f g).0 y
 
 -- The two parts of an and may be worked out in either order.
 swap_classes : (k n : ℕ) (c d : C) → Top k n (and1 c d) → Top k n (and1 d c)
@@ -65,9 +108,24 @@ meets_swap : (wanted : Wanted) (k n : ℕ) (c d : C) (m : ℕ) (δ : ℕ → ℕ
 meets_swap Exact k n c d m δ f t = record { collapsed = t.collapsed; ordered = t.ordered; fits = fits_swap k n c d t.fits; table = table_swap k c d m δ f t.table }
 meets_swap Any k n c d m δ f t = record { ordered = t.ordered; fits = fits_swap k n c d t.fits; table = table_swap k c d m δ f t.table }
 
-pub result_swap : (wanted : Wanted) (s u : Sheet) (c d : C) (r : Option ℕ) → Result wanted s u (and1 c d) r → Result wanted s u (and1 d c) r
-result_swap wanted s u c d None y = λ f. y (fits_swap s.shape.sets s.shape.most d c f)
-result_swap wanted s u c d (Some m) y = (y.0, record { few = y.1.few; meets = meets_swap wanted u.shape.sets u.shape.most c d m (entry u.rows.now u.shape.width) (accepts u.accept.now) y.1.meets })
+or_swap : (a b : Bool) → (a || b) ≡ (b || a)
+or_swap true true = refl
+or_swap true false = refl
+or_swap false true = refl
+or_swap false false = refl
+
+pub result_swap : (wanted : Wanted) (k : ℕ) (s u : Sheet) (c d : C) (r : Option Part) → Result wanted k s u (and1 c d) r → Result wanted k s u (and1 d c) r
+result_swap wanted k s u c d None y = λ f. y (fits_swap k s.shape.most d c f)
+result_swap wanted k s u c d (Some p) y = (
+  y.0,
+  record {
+    few = y.1.few;
+    of = y.1.of;
+    mentioned = λ z. y.1.mentioned z ∙ or_swap (mentions c z) (mentions d z);
+    narrow = y.1.narrow;
+    meets = meets_swap wanted p.sets.of u.shape.most c d p.classes (wide p.sets.of (chosen p.sets) (rows_of u p)) (accepts u.accept.now) y.1.meets;
+  },
+)
 
 -- Nothing fits into no class at all.
 top_none : (k : ℕ) (c : C) → Top k 0 c → ⊥
@@ -80,6 +138,15 @@ fits_none k (and1 c d) f = fits_none k c f.0
 fits_none k (some x c) f = fits_none k c f.0
 
 -- a sheet of the same shape before
-pub result_from : (wanted : Wanted) (s t u : Sheet) (c : C) (r : Option ℕ) → t.shape ≡ s.shape → Result wanted t u c r → Result wanted s u c r
-result_from wanted s t u c None h y = subst (λ z. Fits z.sets z.most c → ⊥) h y
-result_from wanted s t u c (Some m) h y = (y.0 ∙ h, y.1)
+pub result_from : (wanted : Wanted) (k : ℕ) (s t u : Sheet) (c : C) (r : Option Part) → t.shape ≡ s.shape → Result wanted k t u c r → Result wanted k s u c r
+result_from wanted k s t u c None h y = subst (λ z. Fits k z.most c → ⊥) h y
+result_from wanted k s t u c (Some p) h y = (y.0 ∙ h, y.1)
+
+-- a table is exact with other functions that agree with its own on its classes
+pub worked_same : (k n : ℕ) (c : C) (m : ℕ) (δ δ' : ℕ → ℕ → ℕ) (f f' : ℕ → Bool) → Worked k n c m δ f → ((q a : ℕ) → q < m → a < 2 ^ k → δ' q a ≡ δ q a) → ((q : ℕ) → q < m → f' q ≡ f q) → Worked k n c m δ' f'
+worked_same k n c m δ δ' f f' t leads ends = record {
+  table = table_same k (Of c) m δ δ' f f' t.table leads ends;
+  ordered = ordered_same k m δ δ' t.table.connected t.ordered leads;
+  collapsed = collapsed_same k m δ δ' f f' t.table.connected t.collapsed leads ends;
+  fits = t.fits;
+}

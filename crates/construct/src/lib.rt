@@ -7,5 +7,6 @@ pub mod hand_on;
 pub mod part;
 pub mod quantify;
 pub mod wanted;
+pub mod widen;
 pub mod work;
 pub mod work_out;

@@ -3,14 +3,16 @@ ghost use Rattle.std.specs.Prelude.{◌≡◌, ◌<◌, ◌≤◌, ◌∷◌, le
 ghost use Rattle.construct.specs.WorkOut.{Halves, WorkedOut, Lent, IsPart};
 
 use crate::conjoin::conjoin;
+use crate::part::Part;
 use crate::quantify::quantify;
 use crate::wanted::Wanted;
 use crate::work::Work;
 use atoms::atom_table::atom_table;
 use claims::prefix::skip;
 use claims::sign::{Sign, read_sign};
+use selection::mentioned::mentioned;
 use tables::complement::complement;
-use tables::sheet::Sheet;
+use tables::sheet::{Shape, Sheet};
 use workspace::cut::{Slot, cut_slot};
 
 // The two parts of an and, by the bytes behind its sign: the longer one, and then the shorter.
@@ -49,20 +51,29 @@ pub fn work_out(part: &[u8], wanted: Wanted, sheet: &mut Sheet, work: &mut Work)
     let (sign, rest) = read_sign(part)?;
     match sign {
         Sign::Atom(atom) => {
+            let sets = mentioned(atom, work.sets);
+            let shape = Shape::new(sheet.shape.most, sets.count());
+            let mut sheet = Sheet {
+                rows: &mut *sheet.rows,
+                accept: &mut *sheet.accept,
+                shape,
+            };
             let scratch = &mut *work.scratch;
-            atom_table(atom, scratch, sheet)
+            let classes = atom_table(atom, sets, scratch, &mut sheet)?;
+            Some(Part { sets, classes })
         }
         Sign::Not => {
-            let m = work_out(rest, wanted, sheet, work)?;
+            let part = work_out(rest, wanted, sheet, work)?;
             let accept = &mut *sheet.accept;
-            complement(accept, m);
-            Some(m)
+            complement(accept, part.classes);
+            Some(part)
         }
         Sign::And => {
-            let (longer, shorter) = two_parts(rest, sheet.shape.sets as u8);
-            let m = work_out(longer, Wanted::Exact, sheet, work)?;
-            let shape = work.shape;
-            let (free, scratch, pairs) = (&mut *work.free, &mut *work.scratch, &mut *work.pairs);
+            let (longer, shorter) = two_parts(rest, work.sets as u8);
+            let left = work_out(longer, Wanted::Exact, sheet, work)?;
+            let (sets, shape) = (work.sets, work.shape);
+            let (free, spare) = (&mut *work.free, &mut *work.spare);
+            let (scratch, pairs) = (&mut *work.scratch, &mut *work.pairs);
             let Slot { rows, accept, rest } = cut_slot(free, shape.width, shape.most);
             let mut other = Sheet {
                 rows,
@@ -70,17 +81,19 @@ pub fn work_out(part: &[u8], wanted: Wanted, sheet: &mut Sheet, work: &mut Work)
                 shape,
             };
             let mut inner = Work {
+                sets,
                 shape,
                 free: rest,
+                spare,
                 scratch,
                 pairs,
             };
-            let n = work_out(shorter, Wanted::Exact, &mut other, &mut inner)?;
-            conjoin(wanted, sheet, m, other.table(n), &mut inner)
+            let right = work_out(shorter, Wanted::Exact, &mut other, &mut inner)?;
+            conjoin(wanted, sheet, left, &other, right, &mut inner)
         }
         Sign::Some(x) => {
-            let m = work_out(rest, Wanted::Exact, sheet, work)?;
-            quantify(wanted, x, sheet, m, work)
+            let part = work_out(rest, Wanted::Exact, sheet, work)?;
+            quantify(wanted, x, sheet, part, work)
         }
     }
 }

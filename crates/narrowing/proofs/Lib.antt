@@ -5,3 +5,4 @@ pub mod SearchLaws
 pub mod PartsLaws
 pub mod LooksLaws
 pub mod MentionedLaws
+pub mod AbsentLaws

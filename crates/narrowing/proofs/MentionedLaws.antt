@@ -17,28 +17,10 @@ use Rattle.claims.specs.Claims.{C, atom, not1, and1, some, Holds, Of, has, put}
 use Rattle.claims.specs.Rows.{ok}
 use Rattle.claims.proofs.FrontLaws.{both_passed}
 use Rattle.narrowing.specs.Columns.{size}
+use Rattle.narrowing.specs.Laws.{NarrowLaws}
 use Rattle.narrowing.specs.Mentioned.{named, mentions, widest}
 use Rattle.narrowing.proofs.ColumnsLaws.{size_fits}
 use Rattle.narrowing.proofs.LooksLaws.{or_left, or_right, self, first_named, second_named, named_below}
-
-one_of : (a b : Bool) → (a || b) ≡ true → (a ≡ true) ⊎ (b ≡ true)
-one_of true b e = inl refl
-one_of false b e = inr e
-
-last_of : (a b : Bool) → (a && b) ≡ true → b ≡ true
-last_of true b e = e
-last_of false b e = absurd (false≢true e)
-
--- the sets that are mentioned are among the first k
-pub mentions_below : (k : ℕ) (c : C) → T (ok k c) → (z : ℕ) → mentions c z ≡ true → z < k
-mentions_below k (atom a) t z e = let b = named_below a z e in let l = leb→le (sets_of a) k t in omega arith
-mentions_below k (not1 c) t z e = mentions_below k c t z e
-mentions_below k (and1 c d) t z e =
-    let (a, b) = both_passed (ok k c) (ok k d) t in
-    elim (one_of (mentions c z) (mentions d z) e) [ inl p ↦ mentions_below k c a z p | inr p ↦ mentions_below k d b z p ]
-mentions_below k (some x c) t z e =
-    let (a, b) = both_passed (ltb x k) (ok k c) t in
-    mentions_below k c b z (last_of (not (eqb z x)) (mentions c z) e)
 
 -- a claim without parts holds of both families or of neither where they agree in the sets that it
 -- names
@@ -89,6 +71,25 @@ column_mentioned k c u a b h x hx = simp append_assoc (
   holds_mentioned c (sets (u ++ (b ∷ x))) (sets (u ++ (a ∷ x))) (λ z e. fun_ext (sets_same u x b a z (sym (h z e)))),
 )
 
+one_of : (a b : Bool) → (a || b) ≡ true → (a ≡ true) ⊎ (b ≡ true)
+one_of true b e = inl refl
+one_of false b e = inr e
+
+last_of : (a b : Bool) → (a && b) ≡ true → b ≡ true
+last_of true b e = e
+last_of false b e = absurd (false≢true e)
+
+-- the sets that are mentioned are among the first k
+pub mentions_below : (k : ℕ) (c : C) → T (ok k c) → (z : ℕ) → mentions c z ≡ true → z < k
+mentions_below k (atom a) t z e = let b = named_below a z e in let l = leb→le (sets_of a) k t in omega arith
+mentions_below k (not1 c) t z e = mentions_below k c t z e
+mentions_below k (and1 c d) t z e =
+    let (a, b) = both_passed (ok k c) (ok k d) t in
+    elim (one_of (mentions c z) (mentions d z) e) [ inl p ↦ mentions_below k c a z p | inr p ↦ mentions_below k d b z p ]
+mentions_below k (some x c) t z e =
+    let (a, b) = both_passed (ltb x k) (ok k c) t in
+    mentions_below k c b z (last_of (not (eqb z x)) (mentions c z) e)
+
 -- no part mentions more sets than there are
 pub widest_fits : (k : ℕ) (c : C) → widest k c ≤ k
 widest_fits k (atom a) = size_fits k (mentions (atom a))
@@ -102,3 +103,6 @@ mentioned_fits k (atom a) = omega arith
 mentioned_fits k (not1 c) = mentioned_fits k c
 mentioned_fits k (and1 c d) = le-max_left (size k (mentions (and1 c d))) (max (widest k c) (widest k d))
 mentioned_fits k (some x c) = le-max_left (size k (mentions (some x c))) (widest k c)
+
+pub narrow_laws : NarrowLaws
+narrow_laws = record { same_column = column_mentioned; widest_fits = widest_fits }

@@ -2,3 +2,4 @@
 pub mod Columns
 pub mod Mentioned
 pub mod Wide
+pub mod Laws

@@ -10,4 +10,4 @@ pub returns-in-Some : goal.returns-in-Some
 returns-in-Some c = rw c.in-Exact.is (handed_minimized c.args.t c.args.sheet.now c.minimize.new.sheet c.requires.sets c.in-Some.count c.in-Some.ensures)
 
 pub returns-in-Any : goal.returns-in-Any
-returns-in-Any c = rw c.in-Any.is (handed_copied c.args.t c.args.sheet.now _ c.requires.sets refl c.requires.few c.copy.ensures.leads c.copy.ensures.ends)
+returns-in-Any c = rw c.in-Any.is (handed_copied c.args.t c.args.sheet.now _ c.requires.sets refl refl refl c.requires.few c.copy.ensures.leads c.copy.ensures.ends)
