@@ -5,9 +5,9 @@ use Rattle.narrowing.specs.Mentioned.{widest}
 use Rattle.lengths.specs.Answer.{Answered}
 use Rattle.construct.specs.declared.wanted.Wanted.TheVariants.{Any}
 use Rattle.construct.proofs.LentLaws.{whole_room}
-use Rattle.construct.proofs.StandsLaws.{fits_none}
+use Rattle.construct.proofs.StandsLaws.{fits_none, stands_fits}
 use Rattle.lengths.proofs.JudgeLaws.{claim_few, claim_front, enough, judged_answer, judged_few, judged_many, judged_no_claim, lent_whole, work_enough}
-use Rattle.lengths.proofs.PartLaws.{part_fits, part_ordered, part_table}
+use Rattle.lengths.proofs.PartLaws.{part_ordered, part_table}
 use Rattle.lengths.proofs.judge.judge.Goals as goal
 
 pub returns-then-too_few : goal.returns-then-too_few
@@ -121,7 +121,7 @@ returns c =
     let (shape, t) = c.in-Some-work_out.ensures.worked_out d front in
     let u = c.work_out.new.sheet in
     let p = c.in-Some-work_out.part in
-    let fits : Fits k c.args.most d = rw (← same, ← c.new-shape.ensures.most) (subst (λ z. Fits c.cut-inner.result.sets z.most d) shape (part_fits Any _ u d p t)) in
+    let fits : Fits k c.args.most d = rw (← same, ← c.new-shape.ensures.most) (subst (λ z. Fits c.cut-inner.result.sets z.most d) shape (stands_fits Any _ u d p t)) in
     judged_answer s c.args.most c.args.out.now _ v x (enough _ c.too_few.result i c.if-too_few.false)
     k d y c.answer.new.out fits c.answer.result
     (subst (λ k. Answered k d c.args.out.now c.answer.new.out c.answer.result) (t.of ∙ same)

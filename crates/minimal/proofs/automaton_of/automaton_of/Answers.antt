@@ -8,10 +8,10 @@ use Rattle.selection.specs.Selections.{chosen}
 use Rattle.tables.specs.View.{accepting, moves}
 use Rattle.workspace.specs.Floor.{NoRoom, floor_words}
 use Rattle.lengths.proofs.JudgeLaws.{claim_few, claim_front, lent_whole, work_enough}
-use Rattle.lengths.proofs.PartLaws.{part_fits, part_meets}
+use Rattle.lengths.proofs.PartLaws.{part_meets}
 use Rattle.construct.specs.declared.wanted.Wanted.TheVariants.{Exact}
 use Rattle.construct.proofs.LentLaws.{whole_room}
-use Rattle.construct.proofs.StandsLaws.{fits_none}
+use Rattle.construct.proofs.StandsLaws.{fits_none, stands_fits}
 use Rattle.minimal.specs.Minimal.{Minimal}
 use Rattle.minimal.proofs.MadeLaws.{made, too_many}
 use Rattle.minimal.proofs.OrderLaws.{minimal}
@@ -117,7 +117,7 @@ returns c =
     let u = c.work_out.new.sheet in
     let p = c.in-Some-work_out.part in
     let r = c.table.result in
-    let fits : Fits k n d = rw (← same, ← c.new-shape.ensures.most) (subst (λ z. Fits c.cut-work.result.sets z.most d) shape (part_fits Exact _ u d p t)) in
+    let fits : Fits k n d = rw (← same, ← c.new-shape.ensures.most) (subst (λ z. Fits c.cut-work.result.sets z.most d) shape (stands_fits Exact _ u d p t)) in
     let a = c.in_ok-automaton.ensures in
     let least = minimal p.sets.of u.shape.most d r.table.classes (wide p.sets.of (chosen p.sets) (moves r.table)) (accepting r.table) (part_meets Exact _ u d p t r c.table.ensures) c.in_ok-automaton.automaton a.sets a.states a.leads a.accepts in
     made s c.args.most n k d y c.in_ok-automaton.automaton (subst (λ j. Minimal j d c.in_ok-automaton.automaton) (t.of ∙ same) least) fits c.largest-n.ensures.within

@@ -1,4 +1,4 @@
-use Rattle.std.proofs.Common.{◌<◌, ℕ, length, slice_index}
+use Rattle.std.proofs.Common.{◌<◌, length, slice_index}
 use Rattle.tables.specs.Cells.{entry}
 use Rattle.minimal.proofs.WidenLaws.{Written}
 use Rattle.minimal.proofs.widen.rows_by.Given as goal

@@ -1,4 +1,4 @@
-use Rattle.std.proofs.Common.{◌≡◌, ◌*◌, ◌^◌, ◌==◌, length, take, map, sym, ap, ap₂, ◌∙◌, subst, rules, arith}
+use Rattle.std.proofs.Common.{◌≡◌, ◌*◌, ◌^◌, ◌==◌, length, take, map, sym, ap, ap₂, ◌∙◌, rules, arith}
 use Rattle.std.proofs.lemmas.List.{length-map, length-take-le}
 use Rattle.narrowing.specs.Columns.{size, extract}
 use Rattle.narrowing.proofs.ColumnsLaws.{extract_below}
