@@ -1,5 +1,4 @@
 use Rattle.std.proofs.Common.{◌≡◌, ◌+◌, ◌-◌, ◌*◌, ◌^◌, ◌<◌, ◌≤◌, [], length, take, drop, sym, ap, ◌∙◌, subst, arith}
-use Rattle.claims.specs.Fronts.{Front}
 use Rattle.claims.specs.Sizes.{Fits}
 use Rattle.claims.proofs.ClaimLaws.{claim_bounds}
 use Rattle.narrowing.specs.Mentioned.{widest}
@@ -7,7 +6,7 @@ use Rattle.narrowing.specs.Wide.{wide}
 use Rattle.selection.specs.Selections.{chosen}
 use Rattle.tables.specs.View.{accepting, moves}
 use Rattle.workspace.specs.Floor.{NoRoom, floor_words}
-use Rattle.lengths.proofs.JudgeLaws.{claim_few, claim_front, lent_whole, work_enough}
+use Rattle.lengths.proofs.JudgeLaws.{claim_few, claim_front, claim_part, lent_whole, work_enough}
 use Rattle.lengths.proofs.PartLaws.{part_meets}
 use Rattle.construct.specs.declared.wanted.Wanted.TheVariants.{Exact}
 use Rattle.construct.proofs.LentLaws.{whole_room}
@@ -61,16 +60,11 @@ pub work_out-requires : goal.work_out-requires
 work_out-requires c =
     let (d, y, e) = c.in-Some.ensures.said in
     let k = c.in-Some.field-0.sets in
-    let s = c.args.claim.now in
-    let (l, h, b) = claim_few s k d y in
-    let same : c.cut-work.result.sets ≡ k = cc in
+    let (l, h, b) = claim_few c.args.claim.now k d y in
+    let sets : c.cut-work.result.sets ≡ k = cc in
     let wide : c.cut-work.result.shape.sets ≡ widest k d = ap (λ z. z.sets) c.cut-work.ensures.shape ∙ (cc) in
     record {
-      part = (
-        d,
-        subst (λ z. Front z d (take (length s - 1) (drop 1 s)) []) (sym same) (claim_front s k d y),
-        subst (λ z. widest z d ≤ c.cut-work.result.shape.sets) (sym same) (omega arith),
-      );
+      part = claim_part c.args.claim.now k d y c.cut-work.result.sets c.cut-work.result.shape.sets sets wide;
       shape = sym c.cut-work.ensures.shape;
       lent = lent_whole _ _ _ b (rw c.cut-work.ensures.shape c.cut-work.ensures.free);
     }
@@ -81,7 +75,7 @@ returns-in_default-work_out c =
     let k = c.in-Some.field-0.sets in
     let s = c.args.claim.now in
     let same : c.cut-work.result.sets ≡ k = cc in
-    let front = subst (λ z. Front z d (take (length s - 1) (drop 1 s)) []) (sym same) (claim_front s k d y) in
+    let front = claim_front s k d y c.cut-work.result.sets same in
     let over = c.in_default-work_out.ensures.worked_out d front in
     too_many s c.args.most c.largest-n.result k d y (λ g. over (rw (same, c.new-shape.ensures.most) g)) c.largest-n.ensures.within c.largest-n.ensures.largest
 
@@ -91,7 +85,7 @@ table-requires c =
     let k = c.in-Some.field-0.sets in
     let s = c.args.claim.now in
     let same : c.cut-work.result.sets ≡ k = cc in
-    let front = subst (λ z. Front z d (take (length s - 1) (drop 1 s)) []) (sym same) (claim_front s k d y) in
+    let front = claim_front s k d y c.cut-work.result.sets same in
     (Exact, _, d, (c.in-Some-work_out.ensures.worked_out d front).1)
 
 pub of_table-requires : goal.of_table-requires
@@ -100,7 +94,7 @@ of_table-requires c =
     let k = c.in-Some.field-0.sets in
     let s = c.args.claim.now in
     let same : c.cut-work.result.sets ≡ k = cc in
-    let front = subst (λ z. Front z d (take (length s - 1) (drop 1 s)) []) (sym same) (claim_front s k d y) in
+    let front = claim_front s k d y c.cut-work.result.sets same in
     let (shape, t) = c.in-Some-work_out.ensures.worked_out d front in
     let u = c.work_out.new.sheet in
     record { few = omega (arith, c.table.ensures.classes, t.few, u.shape.few); columns = c.table.ensures.sets }
@@ -112,7 +106,7 @@ returns c =
     let s = c.args.claim.now in
     let n = c.largest-n.result in
     let same : c.cut-work.result.sets ≡ k = cc in
-    let front = subst (λ z. Front z d (take (length s - 1) (drop 1 s)) []) (sym same) (claim_front s k d y) in
+    let front = claim_front s k d y c.cut-work.result.sets same in
     let (shape, t) = c.in-Some-work_out.ensures.worked_out d front in
     let u = c.work_out.new.sheet in
     let p = c.in-Some-work_out.part in
