@@ -5,6 +5,7 @@ use std::io;
 use std::path::{Path, PathBuf};
 
 use ceivuron::line::{Question, read_line};
+use ceivuron::second::widths::widest;
 use ceivuron::{Answer, Judge};
 
 use crate::mona::Shortest;
@@ -30,6 +31,16 @@ impl Stored {
     /// The number of sets.
     pub fn sets(&self) -> u8 {
         self.question.claim.bytes()[0]
+    }
+
+    /// The most sets that any part mentions.
+    ///
+    /// # Panics
+    ///
+    /// Where it is no claim.
+    pub fn widest(&self) -> u32 {
+        let (_, part) = self.question.claim.read().expect("a claim");
+        widest(&part)
     }
 
     /// The answer of the call, which plain Rust and MONA must give too.

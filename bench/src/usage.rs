@@ -95,10 +95,21 @@ fn average(call: &mut dyn FnMut()) -> Duration {
 /// The least of five averages of each of the functions, which take turns.
 pub fn least_averages<const N: usize>(mut calls: [&mut dyn FnMut(); N]) -> [Duration; N] {
     let mut least = [Duration::MAX; N];
+    turns(&mut calls, &mut least);
+    least
+}
+
+/// The same of any number of functions.
+pub fn least_averages_of(mut calls: Vec<&mut dyn FnMut()>) -> Vec<Duration> {
+    let mut least = vec![Duration::MAX; calls.len()];
+    turns(&mut calls, &mut least);
+    least
+}
+
+fn turns(calls: &mut [&mut dyn FnMut()], least: &mut [Duration]) {
     for _ in 0..5 {
-        for (least, call) in least.iter_mut().zip(&mut calls) {
+        for (least, call) in least.iter_mut().zip(&mut *calls) {
             *least = average(call).min(*least);
         }
     }
-    least
 }

@@ -38,6 +38,15 @@ unsafe extern "C" {
         work: *mut u32,
         work_len: usize,
     ) -> Numbers;
+
+    fn ceivuron_floor(claim: *const u8, claim_len: usize, most: u32) -> u64;
+}
+
+/// The work words that the call asks for, or `u64::MAX` where they are more.
+pub(crate) fn floor_words(claim: &[u8], most: u32) -> u64 {
+    // Sound: the slice crosses as its pointer and length, the borrow holds until the function returns, and by its
+    // contract, which is proved, it reads the slice and touches nothing else.
+    unsafe { ceivuron_floor(claim.as_ptr(), claim.len(), most) }
 }
 
 /// The call itself, over lent memory: nothing is allocated, and nothing is asked of the arguments. `work` is free,

@@ -2,12 +2,22 @@
 
 use std::alloc::{Layout, alloc_zeroed};
 
-/// The work words that the call asks for: 8,192 + 64s + (n + 1)(16 · 2^k + 256 + n), for s bytes, n = `most` and k
-/// sets, k being the first byte, or 12 where that is larger. For the largest `most` this passes 2^64.
+use crate::call::floor_words;
+
+/// The work words that the call asks for: 8,192 + 64s + (n + 1)(16 · 2^w + 256 + n), for s bytes, n = `most` and w the most
+/// sets that any part of the claim mentions; w is 0 where the bytes are no claim. A part mentions the sets of its signs
+/// without parts, but for those that a `some` in it takes out.
+///
+/// The library says this number, up to 2^64 - 1. For the largest `most` it passes that, and is reckoned from those for 0
+/// and 1: it is a polynomial in n whose second differences are all 2.
 pub fn floor(claim: &[u8], most: u32) -> u128 {
-    let sets = claim.first().map_or(0, |first| (*first).min(12));
-    let n = u128::from(most);
-    8192 + 64 * claim.len() as u128 + (n + 1) * ((16 << sets) + 256 + n)
+    let words = |most| u128::from(floor_words(claim, most));
+    let told = words(most);
+    if told < u128::from(u64::MAX) {
+        return told;
+    }
+    let (n, of_none) = (u128::from(most), words(0));
+    of_none + n * (words(1) - of_none) + n * (n - 1)
 }
 
 /// The fewest words that a buffer takes: 256 KiB. So much the allocator takes from the system for us alone, 0 already and in no page
@@ -83,12 +93,66 @@ mod tests {
 
     #[test]
     fn the_floor_is_the_number_that_is_promised() {
-        assert_eq!(floor(&[], 0), 8192 + 16 + 256);
-        assert_eq!(floor(&[3, 6, 2, 5, 3, 0, 2, 3, 2, 1], 11), 13572);
-        // a first byte above 12 counts as 12
-        assert_eq!(floor(&[13], 1), floor(&[12], 1));
-        assert_eq!(floor(&[200], 1), 8192 + 64 + 2 * (16 * 4096 + 257));
+        assert_eq!(floor(&[3, 6, 2, 5, 3, 0, 2, 3, 2, 1], 11), 8192 + 640 + 12 * (16 * 8 + 256 + 11));
         assert_eq!(floor(&[1, 1, 0], u32::MAX), 8192 + 192 + (1 << 32) * (32 + 256 + (1 << 32) - 1));
+        assert_eq!(floor(&[12, 1, 7], u32::MAX), floor(&[1, 1, 0], u32::MAX));
+    }
+
+    /// Where a claim mentions fewer sets than it is about, and where it mentions fewer than one of its parts.
+    #[test]
+    fn the_floor_goes_by_the_widest_part() {
+        let words = |bytes: &[u8], sets: u32, most: u128| {
+            8192 + 64 * bytes.len() as u128 + (most + 1) * ((16 << sets) + 256 + most)
+        };
+        for (bytes, sets) in [
+            // set 11 is single
+            (&[12, 1, 11][..], 1),
+            // sets 3 and 9, and one set with itself
+            (&[12, 0, 3, 9], 2),
+            (&[12, 0, 3, 3], 1),
+            (&[12, 7, 5, 4, 10], 1),
+            // not, and, some: the outermost sign mentions two, three, none
+            (&[12, 4, 4, 2, 0, 1], 2),
+            (&[12, 5, 0, 3, 9, 2, 9, 11], 3),
+            (&[12, 6, 4, 1, 4], 1),
+            // some 2 (0 before 2 and 2 before 1), of twelve sets
+            (&[12, 6, 2, 5, 3, 0, 2, 3, 2, 1], 3),
+            // some of a set that is not mentioned
+            (&[12, 6, 5, 0, 3, 9], 2),
+            // of two parts of an and the one mentions three sets inside, the other two; together they mention four
+            (&[12, 5, 6, 2, 5, 3, 0, 2, 3, 2, 1, 0, 8, 9], 4),
+            // and here one
+            (&[12, 5, 6, 2, 6, 1, 5, 3, 0, 2, 3, 2, 1, 1, 0], 3),
+        ] {
+            for most in [0, 1, 40, 70_000, 1 << 31, u32::MAX - 200, u32::MAX - 100, u32::MAX] {
+                assert_eq!(floor(bytes, most), words(bytes, sets, most.into()), "{bytes:?}");
+            }
+        }
+    }
+
+    #[test]
+    fn the_floor_of_bytes_that_are_no_claim() {
+        assert_eq!(floor(&[], 0), 8192 + 16 + 256);
+        assert_eq!(floor(&[], 9), 8192 + 10 * (16 + 256 + 9));
+        assert_eq!(floor(&[200], 1), 8192 + 64 + 2 * (16 + 257));
+        // no set, more than twelve, a set that is not below, an end that is missing, bytes left over, by 1 and by 17, a rest that
+        // is not below
+        for bytes in [
+            &[0, 1, 0][..],
+            &[13, 1, 0],
+            &[12, 1, 12],
+            &[12, 5, 1, 0],
+            &[12, 0, 3, 9, 4],
+            &[12, 7, 1, 0, 0],
+            &[12, 7, 17, 0, 0],
+            &[12, 7, 4, 4, 0],
+        ] {
+            assert_eq!(floor(bytes, 20), 8192 + 64 * bytes.len() as u128 + 21 * (16 + 256 + 20), "{bytes:?}");
+        }
+        // 1,024 bytes and one more
+        let nested = |nots: usize| [&[12][..], &vec![4; nots], &[1, 11]].concat();
+        assert_eq!(floor(&nested(1021), 3), 8192 + 65536 + 4 * (32 + 256 + 3));
+        assert_eq!(floor(&nested(1022), 3), 8192 + 65600 + 4 * (16 + 256 + 3));
     }
 
     #[test]

@@ -110,6 +110,26 @@ impl Part {
         }
     }
 
+    /// The same claim of other sets: of `sets[x]` in place of x, free or of a `some`. Where no two are the same it says of these
+    /// what it said of those.
+    ///
+    /// # Panics
+    ///
+    /// Where there is none for a set of the claim.
+    pub fn renamed(&self, sets: &[u8]) -> Part {
+        let set = |x: &u8| sets[usize::from(*x)];
+        match self {
+            Part::Within(x, y) => within(set(x), set(y)),
+            Part::Single(x) => single(set(x)),
+            Part::Next(x, y) => next(set(x), set(y)),
+            Part::Before(x, y) => before(set(x), set(y)),
+            Part::Multiple(modulus, rest, x) => multiple(*modulus, *rest, set(x)),
+            Part::Not(c) => not(c.renamed(sets)),
+            Part::And(c, d) => and(c.renamed(sets), d.renamed(sets)),
+            Part::Some(x, c) => some(set(x), c.renamed(sets)),
+        }
+    }
+
     /// The claim that bytes say, and about how many sets: the number of sets, 1 to 12, then the claim, all its sets
     /// below that number, counted by 2 to 16 with a rest below that, in at most 1,024 bytes. `None` where the bytes are no
     /// claim.
@@ -169,6 +189,16 @@ mod tests {
         assert_eq!(bytes, [2, 6, 1, 5, 2, 1, 0, 4, 0, 1, 0]);
         assert_eq!(part.size(), 10);
         assert_eq!(Part::read(&bytes), Some((2, part)));
+    }
+
+    #[test]
+    fn a_claim_of_other_sets() {
+        let part =
+            some(1, and(next(1, 0), not(and(within(1, 2), and(multiple(3, 0, 2), and(single(1), before(0, 1)))))));
+        let other =
+            some(0, and(next(0, 9), not(and(within(0, 5), and(multiple(3, 0, 5), and(single(0), before(9, 0)))))));
+        assert_eq!(part.renamed(&[9, 0, 5]), other);
+        assert_eq!(part.renamed(&[0, 1, 2]), part);
     }
 
     #[test]

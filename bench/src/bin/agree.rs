@@ -1,5 +1,5 @@
 //! Claims made at random, judged by the call and by MONA: `agree [CLAIMS [SEED]]`, 1,000 without a number. The lengths of the first words
-//! must be the same. MONA must be installed.
+//! must be the same. One claim in three is made one of up to twelve sets. MONA must be installed.
 
 use std::fs;
 use std::process::ExitCode;
@@ -21,6 +21,7 @@ fn main() -> ExitCode {
         let sets = 1 + random.below(5) as u8;
         let signs = 4 + random.below(40);
         let part = random.claim(sets, signs, 5);
+        let (sets, part) = if random.one_in(3) { random.among_more(sets, &part) } else { (sets, part) };
         let claim = Claim::new(sets, &part);
         let Some(judged) = Shortest::judged(&judge.judge(&claim, 2000).expect("small claims")) else { continue };
         // Claims that hold always or never are easily made; of each sort there are at most a third.

@@ -54,5 +54,11 @@ fn measure(family: &str, against: &str, sample: &Sample) {
     let times = least_times(&[mona]).expect("MONA runs");
     let _ = fs::remove_file(&file);
     let ms = |time: Duration| time.as_secs_f64() * 1000.0;
-    println!("{family}\t{against}\t{}\t{most}\t{parts}\t{:.4}\t{:.4}\t{:.4}", sample.sets, ms(call), ms(plain), ms(times[0]));
+    println!(
+        "{family}\t{against}\t{}\t{most}\t{parts}\t{:.4}\t{:.4}\t{:.4}",
+        sample.sets,
+        ms(call),
+        ms(plain),
+        ms(times[0])
+    );
 }

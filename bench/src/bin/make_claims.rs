@@ -49,6 +49,9 @@ fn samples() -> Vec<(String, Sample)> {
     for sets in [6, 9, 12] {
         family("few-of", sets, claims::few_of(sets as u8));
     }
+    for sets in [4, 8, 12] {
+        family("four-of", sets, claims::four_of(sets as u8));
+    }
     for sets in [4, 8] {
         family("one-of", sets, claims::one_of(sets as u8));
     }

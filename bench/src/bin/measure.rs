@@ -12,7 +12,7 @@ use ceivuron::{Verdict, call, floor};
 use ceivuron_bench::figures::{median, milliseconds, ratio};
 use ceivuron_bench::plain::Plain;
 use ceivuron_bench::samples::{Stored, stored};
-use ceivuron_bench::usage::{Program, least_averages, least_times};
+use ceivuron_bench::usage::{Program, least_averages, least_averages_of, least_times};
 
 fn main() {
     let args: Vec<String> = std::env::args().skip(1).collect();
@@ -21,7 +21,8 @@ fn main() {
     let programs = Path::new(programs);
     machine();
     starts(&samples[0], programs);
-    claims(&samples, programs);
+    medians(&claims(&samples, programs));
+    more_sets(&samples, programs);
 }
 
 /// The machine, and what was measured with.
@@ -87,48 +88,141 @@ fn times(sample: &Stored, programs: &[Program]) -> Vec<Duration> {
     least_times(programs).unwrap_or_else(|error| panic!("{}: {error}", sample.name))
 }
 
-fn claims(samples: &[Stored], folder: &Path) {
-    println!(
-        "| claim | k | n | MONA, process | host, process | host / MONA | call, proved | call, plain Rust | proved / plain |"
-    );
-    println!("|---|---|---|---|---|---|---|---|---|");
-    let (mut processes, mut calls) = (Vec::new(), Vec::new());
-    for sample in samples {
-        sample.agreed();
-        let memory = vec!["--memory".into(), "16384".into()];
-        let host = Program { path: folder.join("judge"), args: memory, input: sample.line.clone() };
-        let times = times(sample, &[mona(sample, folder), host]);
-        let [proved, plain] = both_calls(&sample.question);
-        println!(
-            "| {} | {} | {} | {} | {} | {:.2} | {} | {} | {:.2} |",
-            sample.name,
-            sample.sets(),
-            sample.question.most,
-            milliseconds(times[0]),
-            milliseconds(times[1]),
-            ratio(times[1], times[0]),
-            milliseconds(proved),
-            milliseconds(plain),
-            ratio(proved, plain)
-        );
-        processes.push(ratio(times[1], times[0]));
-        calls.push(ratio(proved, plain));
-    }
-    println!(
-        "\nThe median of host / MONA is {:.2}, that of proved / plain {:.2}, over {} claims.",
-        median(processes),
-        median(calls),
-        samples.len()
-    );
+/// What was measured of a claim.
+struct Measured<'a> {
+    sample: &'a Stored,
+    mona: Duration,
+    host: Duration,
+    proved: Duration,
+    plain: Duration,
+    /// The cells of its largest part's table, counted by plain Rust.
+    cells: usize,
 }
 
-/// The call, proved and in plain Rust.
-fn both_calls(question: &Question) -> [Duration; 2] {
+impl Measured<'_> {
+    fn processes(&self) -> f64 {
+        ratio(self.host, self.mona)
+    }
+
+    fn calls(&self) -> f64 {
+        ratio(self.proved, self.plain)
+    }
+}
+
+fn measured<'a>(sample: &'a Stored, folder: &Path) -> Measured<'a> {
+    sample.agreed();
+    let times = times(sample, &[mona(sample, folder), host(sample, folder)]);
+    let mut plain = Plain::default();
+    let [proved_time, plain_time] = least_averages([&mut proved(&sample.question), &mut || judged(&mut plain, sample)]);
+    Measured { sample, mona: times[0], host: times[1], proved: proved_time, plain: plain_time, cells: plain.cells() }
+}
+
+/// The host's program on a claim's line.
+fn host(sample: &Stored, folder: &Path) -> Program {
+    let memory = vec!["--memory".into(), "16384".into()];
+    Program { path: folder.join("judge"), args: memory, input: sample.line.clone() }
+}
+
+/// The proved call, with its memory.
+fn proved(question: &Question) -> impl FnMut() {
     let (bytes, most) = (question.claim.bytes(), question.most);
     let mut work = vec![0; floor(bytes, most) as usize];
     let mut out = vec![0; 2 * most as usize];
-    let mut plain = Plain::default();
-    least_averages([&mut || assert_ne!(call(bytes, most, &mut out, &mut work), Verdict::Many), &mut || {
-        assert!(!plain.judge(bytes, most).to_string().is_empty())
-    }])
+    move || assert_ne!(call(bytes, most, &mut out, &mut work), Verdict::Many)
+}
+
+/// The call in plain Rust.
+fn judged(plain: &mut Plain, sample: &Stored) {
+    let Question { claim, most, .. } = &sample.question;
+    assert!(!plain.judge(claim.bytes(), *most).to_string().is_empty());
+}
+
+fn claims<'a>(samples: &'a [Stored], folder: &Path) -> Vec<Measured<'a>> {
+    println!(
+        "| claim | k | w | n | MONA, process | host, process | host / MONA | call, proved | call, plain Rust | proved / plain |"
+    );
+    println!("|---|---|---|---|---|---|---|---|---|---|");
+    let mut all = Vec::new();
+    for sample in samples {
+        let claim = measured(sample, folder);
+        println!(
+            "| {} | {} | {} | {} | {} | {} | {:.2} | {} | {} | {:.2} |",
+            sample.name,
+            sample.sets(),
+            sample.widest(),
+            sample.question.most,
+            milliseconds(claim.mona),
+            milliseconds(claim.host),
+            claim.processes(),
+            milliseconds(claim.proved),
+            milliseconds(claim.plain),
+            claim.calls()
+        );
+        all.push(claim);
+    }
+    println!();
+    all
+}
+
+/// What MONA takes for a claim that is more than its start.
+const LONG: Duration = Duration::from_millis(5);
+
+/// The medians, and the claims for which the host takes longer than MONA.
+fn medians(claims: &[Measured]) {
+    let all = claims.iter().map(Measured::processes).collect();
+    let calls = claims.iter().map(Measured::calls).collect();
+    println!(
+        "The median of host / MONA is {:.2}, that of proved / plain {:.2}, over {} claims.",
+        median(all),
+        median(calls),
+        claims.len()
+    );
+    let long: Vec<f64> = claims.iter().filter(|claim| claim.mona > LONG).map(Measured::processes).collect();
+    match long.len() {
+        0 => println!("MONA takes over 5 ms for none."),
+        count => println!("For the {count} of which MONA takes over 5 ms that of host / MONA is {:.2}.", median(long)),
+    }
+    let slower: Vec<_> = claims.iter().filter(|claim| claim.processes() > 1.0).collect();
+    if slower.is_empty() {
+        println!("The host takes longer than MONA for none.\n");
+        return;
+    }
+    println!("\n| the host takes longer than MONA | k | w | host / MONA | cells of the largest part's table |");
+    println!("|---|---|---|---|---|");
+    for claim in slower {
+        let Stored { name, .. } = claim.sample;
+        let (sets, widest) = (claim.sample.sets(), claim.sample.widest());
+        println!("| {name} | {sets} | {widest} | {:.2} | {} |", claim.processes(), claim.cells);
+    }
+    println!();
+}
+
+/// Families of one claim, which speaks of a few of more and more sets.
+const FAMILIES: [&str; 2] = ["few-of-", "four-of-"];
+
+/// What it costs that there are more sets, of which the claim does not speak. Those of a family take turns.
+fn more_sets(samples: &[Stored], folder: &Path) {
+    println!("| one claim, of more sets | k | w | n | host, process | / first | call, proved | / first |");
+    println!("|---|---|---|---|---|---|---|---|");
+    for family in FAMILIES {
+        let family: Vec<_> = samples.iter().filter(|sample| sample.name.starts_with(family)).collect();
+        let Some(first) = family.first() else { continue };
+        let programs: Vec<_> = family.iter().map(|sample| host(sample, folder)).collect();
+        let processes = times(first, &programs);
+        let mut calls: Vec<_> = family.iter().map(|sample| proved(&sample.question)).collect();
+        let calls = least_averages_of(calls.iter_mut().map(|call| call as &mut dyn FnMut()).collect());
+        for (sample, (process, call)) in family.iter().zip(processes.iter().zip(&calls)) {
+            println!(
+                "| {} | {} | {} | {} | {} | {:.2} | {} | {:.2} |",
+                sample.name,
+                sample.sets(),
+                sample.widest(),
+                sample.question.most,
+                milliseconds(*process),
+                ratio(*process, processes[0]),
+                milliseconds(*call),
+                ratio(*call, calls[0])
+            );
+        }
+    }
 }

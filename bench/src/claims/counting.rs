@@ -14,6 +14,13 @@ pub fn few_of(sets: u8) -> Sample {
     Sample { sets, part: fewer(8, 0, [1, 2]) }
 }
 
+/// The counter `marks` of degree 7 where there are so many sets, at least four: the claim speaks of four of them, of the first and the
+/// last and two in between.
+pub fn four_of(sets: u8) -> Sample {
+    let last = sets - 1;
+    Sample { sets, part: marks(7, 1).part.renamed(&[0, last / 3, 2 * last / 3, last]) }
+}
+
 /// Eight lanes: the first has room for four trays, the others for two.
 pub fn lanes() -> Sample {
     Sample { sets: 10, part: and(all((0..4).map(lane)), all((4..8).map(lane))) }

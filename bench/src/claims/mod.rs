@@ -9,7 +9,7 @@ use ceivuron::{Answer, Claim};
 
 use crate::plain::Plain;
 
-pub use counting::{apart, few_of, lanes, marks, trays};
+pub use counting::{apart, few_of, four_of, lanes, marks, trays};
 pub use numbers::{adder, adders, order, orders};
 pub use places::{one_of, row, singles};
 

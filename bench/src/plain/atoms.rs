@@ -1,6 +1,8 @@
-//! The table of a claim without parts: the states of its machine that are reached.
+//! The table of a claim without parts, over the columns of its own one or two sets: the states of its machine that are reached.
 
 use super::Table;
+use super::narrow::Narrow;
+use super::selection::Selection;
 use ceivuron::part::Part;
 
 /// What is left of a claim about two sets after a column that has the first or not, and the second or not.
@@ -24,16 +26,17 @@ fn after(q: u8, x: bool, y: bool) -> u8 {
 }
 
 /// The states that are reached, numbered as they are found.
-pub(super) fn explore(atom: &Part, sets: u32) -> Table {
+pub(super) fn explore(atom: &Part) -> Narrow {
     let (start, x, y) = match *atom {
-        Part::Multiple(modulus, rest, x) => return count(modulus, rest, x, sets),
+        Part::Multiple(modulus, rest, x) => return count(modulus, rest, x),
         Part::Within(x, y) => (0, x, y),
         Part::Single(x) => (1, x, x),
         Part::Next(x, y) => (2, x, y),
         Part::Before(x, y) => (3, x, y),
         _ => unreachable!("a claim without parts"),
     };
-    let width = 1 << sets;
+    let sets = Selection::pair(x, y);
+    let (x, y, width) = (sets.place(x), sets.place(y), sets.width());
     let mut states = vec![start];
     let mut rows = Vec::with_capacity(4 * width);
     let mut i = 0;
@@ -49,19 +52,14 @@ pub(super) fn explore(atom: &Part, sets: u32) -> Table {
         i += 1;
     }
     let accept = states.iter().map(|state| matches!(state, 0 | 6 | 7)).collect();
-    Table { rows, accept, width }
+    Narrow { table: Table { rows, accept, width }, sets }
 }
 
 /// A state for each number of places below `modulus`, which are gone through round and round.
-fn count(modulus: u8, rest: u8, x: u8, sets: u32) -> Table {
-    let (modulus, width) = (u32::from(modulus), 1 << sets);
-    let mut rows = Vec::with_capacity(modulus as usize * width);
-    for state in 0..modulus {
-        for column in 0..width {
-            let places = state + (column >> x & 1) as u32;
-            rows.push(places % modulus);
-        }
-    }
+fn count(modulus: u8, rest: u8, x: u8) -> Narrow {
+    let modulus = u32::from(modulus);
+    // by the column without a place, and by that with one
+    let rows = (0..modulus).flat_map(|state| [state, (state + 1) % modulus]).collect();
     let accept = (0..modulus).map(|state| state == u32::from(rest)).collect();
-    Table { rows, accept, width }
+    Narrow { table: Table { rows, accept, width: 2 }, sets: Selection::pair(x, x) }
 }

@@ -1,13 +1,25 @@
--- From the table of a machine's states, joined, to the exact table of the claim, or that it does not
--- fit.
-use Rattle.std.proofs.Common.{◌≡◌, ℕ, Option, None, Some, MatchOption}
+-- From the table of a machine's states over the columns of the claim's own sets, joined, to the
+-- exact table of the claim, or that it does not fit.
+use Rattle.std.proofs.Common.{◌≡◌, ℕ, ◌≤◌, true, Option, None, Some, MatchOption}
+use Rattle.words.specs.Words.{bit}
+use Rattle.kinds.specs.Atoms.{sets_of}
 use Rattle.kinds.specs.Machines.{Machine, Right}
 use Rattle.kinds.specs.Meaning.{OfAtom}
 use Rattle.kinds.specs.declared.atom.Atom.{Atom}
 use Rattle.automata.proofs.Atoms.{few_reached, many_atom, worked_atom}
+use Rattle.automata.specs.Joined.{Joined, Written}
+use Rattle.automata.specs.Search.{Explored}
 use Rattle.claims.specs.Claims.{atom}
 use Rattle.claims.specs.Sizes.{Fits}
 use Rattle.minimize.specs.Join.{TooManyJoined, Minimized}
+use Rattle.narrowing.specs.Columns.{extract}
+use Rattle.narrowing.specs.Mentioned.{named}
+use Rattle.narrowing.specs.Wide.{Sees, wide}
+use Rattle.narrowing.proofs.LooksLaws.{looks_sees}
+use Rattle.narrowing.proofs.SearchLaws.{explored_wide, too_many_wide}
+use Rattle.narrowing.proofs.WideLaws.{joined_wide, written_wide}
+use Rattle.selection.specs.Selections.{chosen, count, spread}
+use Rattle.selection.specs.declared.selection.Selection.{Selection}
 use Rattle.tables.specs.Cells.{entry, accepts}
 use Rattle.tables.specs.View.{moves, accepting}
 use Rattle.tables.specs.Sheets.{Shows}
@@ -18,19 +30,43 @@ use Rattle.worklist.proofs.SearchLaws.{tabled_sets, tabled_explored, tabled_acce
 use Rattle.atoms.specs.AtomTable.{Exact}
 use Rattle.atoms.specs.States.{reading}
 
-module _ {S : Type 0} (number : S → ℕ) (m : Machine S) (a : Atom) (told : (p q : S) → number p ≡ number q → p ≡ q) (right : Right number m (OfAtom a)) where
+module _ {S : Type 0} (number : S → ℕ) (m : Machine S) (a : Atom) (told : (p q : S) → number p ≡ number q → p ≡ q) (right : Right number m (OfAtom a)) (looks : (q : S) (b c : ℕ) → ((z : ℕ) → named a z ≡ true → bit z b ≡ bit z c) → m.step q b ≡ m.step q c) (sets : Selection) (about : sets_of a ≤ sets.of) (mentioned : (z : ℕ) → chosen sets z ≡ named a z) where
+  -- the step that is searched
+  abbrev small : S → ℕ → S
+  small q j = m.step q (spread sets j)
+
+  -- the table over the columns of all sets for which one over those of the claim's sets stands
+  abbrev full : (ℕ → ℕ → ℕ) → ℕ → ℕ → ℕ
+  full = wide sets.of (chosen sets)
+
+  -- the machine goes by the columns of the claim's sets alone
+  sees : Sees sets.of (extract sets.of (chosen sets)) m.step small
+  sees = looks_sees sets.of a (chosen sets) m.step looks about mentioned
+
   -- no seventeen states are reached
-  pub no_excess : (k : ℕ) → Excess (reading k m) 16 → ⊥
-  no_excess k x = few_reached number m (OfAtom a) told right k x
+  pub no_excess : Excess (reading sets m) 16 → ⊥
+  no_excess x = few_reached number m (OfAtom a) told right sets.of (too_many_wide sets.of (chosen sets) m.step small sees m.start 16 x)
 
-  module _ {states found : Sheet} (s u : Sheet) {count : ℕ} (x : Tabled (reading s.shape.sets m) states found count) (same : states.shape.sets ≡ s.shape.sets) (t : WordTable) (shows : Shows found count t) where
-    sets : t.sets ≡ s.shape.sets
-    sets = tabled_sets x same t shows
+  module _ {states found : Sheet} (s u : Sheet) {n : ℕ} (x : Tabled (reading sets m) states found n) (same : states.shape.sets ≡ count sets) (t : WordTable) (shows : Shows found n t) where
+    columns : t.sets ≡ count sets
+    columns = tabled_sets x same t shows
 
-    pub atom_exact : (r : Option ℕ) → MatchOption r (TooManyJoined t s) (Minimized t s u) → MatchOption r (Fits s.shape.sets s.shape.most (atom a) → ⊥) (Exact s u (atom a))
-    atom_exact None y = rw (← sets) (many_atom number m a told right t.sets s.shape.most t.table.classes x.at (moves t.table) (accepting t.table) (tabled_explored x same t shows) (tabled_accepted x same t shows) y.joins.cls y.joins.rep y.count y.joins.joined y.many)
-    atom_exact (Some n) y = record {
+    -- the search and the joining, as if they had been over the columns of all sets
+    explored : Explored sets.of m.step m.start t.table.classes x.at (full (moves t.table))
+    explored = explored_wide sets.of (chosen sets) m.step small sees m.start t.table.classes x.at (moves t.table) (rw (← columns) (tabled_explored x same t shows))
+
+    joined : (cls rep : ℕ → ℕ) (o : ℕ) → Joined t.sets t.table.classes (moves t.table) (accepting t.table) cls rep o → Joined sets.of t.table.classes (full (moves t.table)) (accepting t.table) cls rep o
+    joined cls rep o j = joined_wide sets.of (chosen sets) (moves t.table) (accepting t.table) t.table.classes cls rep o (rw (← columns) j)
+
+    written : (cls rep : ℕ → ℕ) (o : ℕ) → Written t.sets (moves t.table) (accepting t.table) cls rep o (entry u.rows.now s.shape.width) (accepts u.accept.now) → Written sets.of (full (moves t.table)) (accepting t.table) cls rep o (full (entry u.rows.now s.shape.width)) (accepts u.accept.now)
+    written cls rep o w = written_wide sets.of (chosen sets) (moves t.table) (accepting t.table) cls rep o (entry u.rows.now s.shape.width) (accepts u.accept.now) (rw (← columns) w)
+
+    pub atom_exact : (r : Option ℕ) → MatchOption r (TooManyJoined t s) (Minimized t s u) → MatchOption r (Fits sets.of s.shape.most (atom a) → ⊥) (Exact sets s u (atom a))
+    atom_exact None y = many_atom number m a told right sets.of s.shape.most t.table.classes x.at (full (moves t.table)) (accepting t.table) explored (tabled_accepted x same t shows) y.joins.cls y.joins.rep y.count (joined y.joins.cls y.joins.rep y.count y.joins.joined) y.many
+    atom_exact (Some o) y = record {
       few = y.few;
-      worked = rw (← sets) (worked_atom number m a told right t.sets s.shape.most t.table.classes x.at (moves t.table) (accepting t.table) (tabled_explored x same t shows) (tabled_accepted x same t shows) y.joins.cls y.joins.rep n y.joins.joined (entry u.rows.now s.shape.width) (accepts u.accept.now) y.written y.few);
+      worked = worked_atom number m a told right sets.of s.shape.most t.table.classes x.at (full (moves t.table)) (accepting t.table) explored (tabled_accepted x same t shows) y.joins.cls y.joins.rep o (joined y.joins.cls y.joins.rep o y.joins.joined) (full (entry u.rows.now s.shape.width)) (accepts u.accept.now) (written y.joins.cls y.joins.rep o y.written) y.few;
       shape = y.shape;
+      rows = y.rows;
+      accept = y.accept;
     }

@@ -1,11 +1,14 @@
 // The exact table of a claim without parts: its machine's states are searched, and those that are
-// alike joined.
+// alike joined. The machine looks at one or two sets alone, so it is searched over the columns of
+// these.
 // Two sets that are one make states that are alike, as for `next x x`, so whether the claim fits is
 // known only once they are joined.
-ghost use Rattle.std.specs.Prelude.{◌≡◌, ◌+◌, ◌*◌, ◌≤◌, length, MatchOption};
+ghost use Rattle.std.specs.Prelude.{◌≡◌, ℕ, ◌+◌, ◌*◌, ◌≤◌, length, MatchOption};
 ghost use Rattle.claims.specs.Claims.{atom as claim};
 ghost use Rattle.claims.specs.Sizes.{Fits};
 ghost use Rattle.kinds.specs.Atoms.{sets_of};
+ghost use Rattle.narrowing.specs.Mentioned.{named};
+ghost use Rattle.selection.specs.Selections.{chosen, count};
 ghost use Rattle.atoms.specs.AtomTable.{Exact};
 
 use crate::kind::Kind;
@@ -14,14 +17,15 @@ use kinds::atom::Atom;
 use kinds::residual::Residual;
 use minimize::memory::Parts;
 use minimize::minimize::minimize;
+use selection::selection::Selection;
 use tables::sheet::{Shape, Sheet};
 use worklist::explore::explore;
 
 /// As many states of a machine are reached at most.
 pub const STATES: usize = 16;
 
-/// The exact table of the claim, written on the sheet: how many classes it has, or that they are
-/// more than the sheet has room for.
+/// The exact table of the claim, over the columns of its own sets, written on the sheet: how many
+/// classes it has, or that they are more than the sheet has room for.
 /// Scratch: a row for each of 16 states, six words for each, and one for each pair of them. What it
 /// held before does not matter.
 pub fn atom_table(
@@ -37,30 +41,33 @@ pub fn atom_table(
     ensures { MatchOption result (Fits sets.of sheet.old.shape.most (claim atom) → ⊥) (Exact sets sheet.old sheet.new (claim atom)) }
 {
     match atom {
-        Atom::Related(relation) => table(relation, &mut [Residual::Dead; 17], scratch, sheet),
-        Atom::Counted(multiple) => table(multiple, &mut [0; 17], scratch, sheet),
+        Atom::Related(relation) => table(relation, sets, &mut [Residual::Dead; 17], scratch, sheet),
+        Atom::Counted(multiple) => table(multiple, sets, &mut [0; 17], scratch, sheet),
     }
 }
 
 // The same of a claim of any kind; its machine's states are found in `found`.
 fn table<K: Kind>(
     kind: K,
+    sets: Selection,
     found: &mut [K::State],
     scratch: &mut [u32],
     sheet: &mut Sheet,
 ) -> Option<usize>
-    requires named { sets_of (K.atom kind) ≤ sheet.old.shape.sets }
+    requires about { sets_of (K.atom kind) ≤ sets.of }
+    requires mentioned { (z : ℕ) → chosen sets z ≡ named (K.atom kind) z }
+    requires columns { sheet.old.shape.sets ≡ count sets }
     requires found { 17 ≤ length found.old }
     requires scratch { 16 * sheet.old.shape.width + 352 ≤ length scratch.old }
-    ensures { MatchOption result (Fits sheet.old.shape.sets sheet.old.shape.most (claim (K.atom kind)) → ⊥) (Exact sheet.old sheet.new (claim (K.atom kind))) }
+    ensures { MatchOption result (Fits sets.of sheet.old.shape.most (claim (K.atom kind)) → ⊥) (Exact sets sheet.old sheet.new (claim (K.atom kind))) }
 {
-    let Shape { sets, width, .. } = sheet.shape;
+    let width = sheet.shape.width;
     let (rows, rest) = scratch.split_at_mut(STATES * width);
     let (accept, rest) = rest.split_at_mut(STATES);
     let (parting, index) = rest.split_at_mut(5 * STATES);
     let shape = Shape {
         most: STATES,
-        sets,
+        sets: sheet.shape.sets,
         width,
     };
     let mut reached = Sheet {

@@ -1,11 +1,13 @@
 // The form of a claim without parts: what it means, and a machine that says it.
 // The search, the table and the joining of a claim's classes know this trait, and nothing else of
 // its kind.
-ghost use Rattle.std.specs.Prelude.{◌≡◌, ℕ, ◌↔◌, ◌≤◌, IsTrue};
+ghost use Rattle.std.specs.Prelude.{◌≡◌, ℕ, ◌↔◌, ◌≤◌, true, IsTrue};
+ghost use Rattle.words.specs.Words.{bit};
 ghost use Rattle.kinds.specs.Atoms.{sets_of};
 ghost use Rattle.kinds.specs.Machines.{Machine, Right};
 ghost use Rattle.kinds.specs.Meaning.{OfAtom};
 ghost use Rattle.kinds.specs.declared.atom.Atom.{Atom};
+ghost use Rattle.narrowing.specs.Mentioned.{named};
 
 /// A kind of claims without parts. Each claim is decided by a machine that reads a word column by
 /// column.
@@ -44,4 +46,8 @@ pub trait Kind: Copy {
 
     /// The machine is right of what the claim means.
     ghost right: { (x : Self) → Right number (machine x) (OfAtom (atom x)) };
+
+    /// The machine looks at the sets that the claim names alone: columns that agree in these lead
+    /// to the same state.
+    ghost looks: { (x : Self) (q : Self.State) (a b : ℕ) → ((z : ℕ) → named (atom x) z ≡ true → bit z a ≡ bit z b) → (machine x).step q a ≡ (machine x).step q b };
 }

@@ -2,6 +2,7 @@
 ghost use Rattle.kinds.specs.Counters.{counter};
 ghost use Rattle.kinds.specs.declared.atom.Atom.TheVariants.{Counted};
 ghost use Rattle.kinds.proofs.CounterLaws.{counter_right};
+ghost use Rattle.narrowing.proofs.LooksLaws.{counter_looks};
 
 use crate::kind::Kind;
 use kinds::multiple::Multiple;
@@ -41,4 +42,6 @@ impl Kind for Multiple {
     ghost told = { λ p q e. e };
 
     ghost right = { counter_right };
+
+    ghost looks = { counter_looks };
 }

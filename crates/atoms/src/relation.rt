@@ -2,6 +2,7 @@
 ghost use Rattle.kinds.specs.Residuals.{number, residuals};
 ghost use Rattle.kinds.specs.declared.atom.Atom.TheVariants.{Related};
 ghost use Rattle.kinds.proofs.ResidualLaws.{residual_told, residual_right};
+ghost use Rattle.narrowing.proofs.LooksLaws.{residual_looks};
 
 use crate::kind::Kind;
 use kinds::relation::Relation;
@@ -37,4 +38,6 @@ impl Kind for Relation {
     ghost told = { residual_told };
 
     ghost right = { residual_right };
+
+    ghost looks = { residual_looks };
 }

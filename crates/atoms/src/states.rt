@@ -1,5 +1,6 @@
 // The states of a machine as they are found. They are few, so one is looked for among those found
-// by comparing.
+// by comparing. A column of the claim's own sets leads where the least column of all sets does that
+// has it.
 ghost use Rattle.std.specs.Prelude.{◌≡◌, ℕ, ◌<◌, ◌≢◌, ◌⊎◌, length, slice_index_or, MatchOption};
 ghost use Rattle.atoms.specs.States.{reading};
 
@@ -53,7 +54,7 @@ impl<K: Kind> Frontier for States<'_, K> {
     }
 
     fn follow(&mut self, m: usize, _i: usize, origin: K::State, a: u32) -> usize {
-        let next = self.kind.step(origin, a);
+        let next = self.kind.step(origin, self.sets.spread(a));
         let found = &mut *self.found;
         enter::<K>(found, m, next)
     }

@@ -1,7 +1,8 @@
 -- A claim's table on a sheet: what a reader of it needs, and that the two parts of an and may be
 -- worked out in either order.
 use Rattle.std.proofs.Common.{◌≡◌, ℕ, ◌*◌, ◌^◌, ◌<◌, ◌≤◌, Bool, true, false, ◌||◌, List, [], length, None, Some, Option, sym, refl, ap, ◌∙◌, subst, arith}
-use Rattle.std.proofs.lemmas.Nat.{mul-le, pow-le}
+use Rattle.std.proofs.Math.Pow.{pow_mono}
+use Rattle.std.proofs.lemmas.Nat.{mul-le}
 use Rattle.claims.specs.Claims.{C, Of, and1, atom, not1, some}
 use Rattle.claims.specs.Fronts.{Front}
 use Rattle.claims.specs.Sizes.{Fits, Top}
@@ -69,7 +70,7 @@ module _ (wanted : Wanted) (k : ℕ) (s : Sheet) (c : C) (p : Part) (t : Stands 
 
     pub stands_rows : p.classes * w ≤ length s.rows.now
     stands_rows =
-        let o = pow-le 2 (count p.sets) s.shape.sets (omega arith) t.narrow in
+        let o = pow_mono t.narrow in
         let g : w ≤ s.shape.width = rw (w_is, s.shape.wide) o in
         let m = mul-le p.classes w s.shape.most s.shape.width t.few g in
         omega (arith, s.rows_fit)

@@ -33,6 +33,14 @@ pub record Stands (wanted : Wanted) (k : ℕ) (s : Sheet) (c : C) (p : Part) : T
   pub narrow : count p.sets ≤ s.shape.sets
   pub meets : Meets wanted p.sets.of s.shape.most c p.classes (wide p.sets.of (chosen p.sets) (rows_of s p)) (accepts s.accept.now)
 
+-- a table over the columns of these sets, which are those that claim c about k sets mentions, is the
+-- claim's exact one
+pub record ExactOf (k n : ℕ) (sets : Selection) (t : WordTable) (c : C) : Type 0 where
+  pub of : sets.of ≡ k
+  pub mentioned : (z : ℕ) → chosen sets z ≡ mentions c z
+  pub columns : t.sets ≡ count sets
+  pub worked : Worked sets.of n c t.table.classes (wide sets.of (chosen sets) (moves t.table)) (accepting t.table)
+
 -- what became of a sheet that was s and is u: claim c about k sets does not fit, or its table
 -- stands there
 abbrev pub Result : Wanted → ℕ → Sheet → Sheet → C → Option Part → Type 0

@@ -4,6 +4,7 @@
 
 pub mod conjoin;
 pub mod hand_on;
+pub mod leaf;
 pub mod part;
 pub mod quantify;
 pub mod wanted;

@@ -22,7 +22,7 @@ use project::subsets::subsets;
 use selection::recolumn::recolumn;
 use tables::sheet::{Shape, Sheet};
 use words::bits::Set;
-use workspace::cut::cut_slot;
+use workspace::cut::{Slot, cut_slot};
 
 /// The sets of live classes that are reached whatever set x is, as a table as it is wanted, in
 /// place of that of a part on the sheet: the part without x, or that the claim does not fit.
@@ -51,10 +51,18 @@ pub fn quantify(
     let t = table(sheet, part);
     let sets = part.sets.without(x);
     let (wide, narrow) = (Shape::new(most, t.sets), Shape::new(most, sets.count()));
-    let one = cut_slot(free, wide.width, most);
-    let two = cut_slot(spare, narrow.width, most);
-    let mut reached = Sheet { rows: one.rows, accept: one.accept, shape: wide };
-    let mut left_out = Sheet { rows: two.rows, accept: two.accept, shape: narrow };
+    let Slot { rows, accept, .. } = cut_slot(free, wide.width, most);
+    let mut reached = Sheet {
+        rows,
+        accept,
+        shape: wide,
+    };
+    let Slot { rows, accept, .. } = cut_slot(spare, narrow.width, most);
+    let mut left_out = Sheet {
+        rows,
+        accept,
+        shape: narrow,
+    };
     let (map, rest) = scratch.split_at_mut(narrow.width);
     let (completed, rest) = rest.split_at_mut(most);
     let x = Set(part.sets.place(x) as u8);
@@ -79,7 +87,11 @@ pub fn quantify(
     };
     let count = subsets(&mut found, &mut reached)?;
     recolumn(reached.table(count), part.sets, sets, map, &mut left_out);
-    let mut sheet = Sheet { rows: &mut *sheet.rows, accept: &mut *sheet.accept, shape: narrow };
+    let mut sheet = Sheet {
+        rows: &mut *sheet.rows,
+        accept: &mut *sheet.accept,
+        shape: narrow,
+    };
     let classes = hand_on(left_out.table(count), wanted, scratch, pairs, &mut sheet);
     Some(Part { sets, classes })
 }

@@ -21,9 +21,9 @@ pub fn widen<'a>(
     requires same { from.of ≡ to.of }
     requires among { (x : ℕ) → chosen from x ≡ true → chosen to x ≡ true }
     requires from { t.sets ≡ count from }
-    requires to { sheet.entry.now.shape.sets ≡ count to }
-    requires few { t.table.classes ≤ sheet.entry.now.shape.most }
-    requires scratch { sheet.entry.now.shape.width ≤ length scratch.old }
+    requires to { sheet.old.shape.sets ≡ count to }
+    requires few { t.table.classes ≤ sheet.old.shape.most }
+    requires scratch { sheet.old.shape.width ≤ length scratch.old }
     ensures { Widened t.entry from to result }
 {
     if from.mask == to.mask {

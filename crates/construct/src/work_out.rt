@@ -1,23 +1,22 @@
 // Working a claim out, part by part, in prefix order over its bytes.
-ghost use Rattle.std.specs.Prelude.{◌≡◌, ◌<◌, ◌≤◌, ◌∷◌, length};
+ghost use Rattle.std.specs.Prelude.{◌≡◌, ℕ, ◌<◌, ◌≤◌, ◌∷◌, length};
 ghost use Rattle.construct.specs.WorkOut.{Halves, WorkedOut, Lent, IsPart};
 
 use crate::conjoin::conjoin;
-use crate::part::Part;
+use crate::leaf::leaf;
+use crate::part::{Part, table};
 use crate::quantify::quantify;
 use crate::wanted::Wanted;
 use crate::work::Work;
-use atoms::atom_table::atom_table;
 use claims::prefix::skip;
 use claims::sign::{Sign, read_sign};
-use selection::mentioned::mentioned;
 use tables::complement::complement;
-use tables::sheet::{Shape, Sheet};
+use tables::sheet::Sheet;
 use workspace::cut::{Slot, cut_slot};
 
 // The two parts of an and, by the bytes behind its sign: the longer one, and then the shorter.
 fn two_parts(rest: &[u8], k: u8) -> (&[u8], &[u8])
-    requires { IsPart k (5 ∷ rest.now) }
+    requires { (v : ℕ) × IsPart k v (5 ∷ rest.now) }
     ensures { Halves k (5 ∷ rest.now) result.0.now result.1.now }
 {
     let Some(second) = skip(rest, k) else {
@@ -50,18 +49,7 @@ pub fn work_out(part: &[u8], wanted: Wanted, sheet: &mut Sheet, work: &mut Work)
 {
     let (sign, rest) = read_sign(part)?;
     match sign {
-        Sign::Atom(atom) => {
-            let sets = mentioned(atom, work.sets);
-            let shape = Shape::new(sheet.shape.most, sets.count());
-            let mut sheet = Sheet {
-                rows: &mut *sheet.rows,
-                accept: &mut *sheet.accept,
-                shape,
-            };
-            let scratch = &mut *work.scratch;
-            let classes = atom_table(atom, sets, scratch, &mut sheet)?;
-            Some(Part { sets, classes })
-        }
+        Sign::Atom(atom) => leaf(atom, sheet, work),
         Sign::Not => {
             let part = work_out(rest, wanted, sheet, work)?;
             let accept = &mut *sheet.accept;
@@ -72,8 +60,10 @@ pub fn work_out(part: &[u8], wanted: Wanted, sheet: &mut Sheet, work: &mut Work)
             let (longer, shorter) = two_parts(rest, work.sets as u8);
             let left = work_out(longer, Wanted::Exact, sheet, work)?;
             let (sets, shape) = (work.sets, work.shape);
-            let (free, spare) = (&mut *work.free, &mut *work.spare);
-            let (scratch, pairs) = (&mut *work.scratch, &mut *work.pairs);
+            let free = &mut *work.free;
+            let spare = &mut *work.spare;
+            let scratch = &mut *work.scratch;
+            let pairs = &mut *work.pairs;
             let Slot { rows, accept, rest } = cut_slot(free, shape.width, shape.most);
             let mut other = Sheet {
                 rows,
@@ -89,7 +79,8 @@ pub fn work_out(part: &[u8], wanted: Wanted, sheet: &mut Sheet, work: &mut Work)
                 pairs,
             };
             let right = work_out(shorter, Wanted::Exact, &mut other, &mut inner)?;
-            conjoin(wanted, sheet, left, &other, right, &mut inner)
+            let second = table(&other, right);
+            conjoin(wanted, sheet, left, second, right.sets, &mut inner)
         }
         Sign::Some(x) => {
             let part = work_out(rest, Wanted::Exact, sheet, work)?;

@@ -1,3 +1,4 @@
 mod SelectionLaws
+mod MapLaws
 mod RecolumnLaws
 mod SpellLaws

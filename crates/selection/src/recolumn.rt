@@ -4,24 +4,13 @@
 // tables over the same columns; and from the sets of a part to those but the one that is left out.
 // To more sets this is known as cylindrification.
 ghost use Rattle.std.specs.Prelude.{◌≡◌, ℕ, ◌<◌, ◌≤◌, length, slice_index};
-ghost use Rattle.selection.specs.Selections.{count, narrow, spread};
+ghost use Rattle.selection.specs.Selections.{count};
 ghost use Rattle.selection.specs.Recolumn.{Recolumned, Remapped};
 
+use crate::map::fill;
 use crate::selection::Selection;
 use tables::cells::{Class, Table, WordTable};
 use tables::sheet::Sheet;
-
-// For each of the first `width` columns of the sets of `to`, the column of the sets of `from` that
-// agrees with it.
-// Invariant: the columns before j are mapped.
-fn fill(from: Selection, to: Selection, width: u32, map: &mut [u32])
-    requires { width ≤ length map.old }
-    ensures { (j : ℕ) → j < width → slice_index map.new j ≡ narrow from (spread to j) }
-{
-    for j in 0..width {
-        map[j as usize] = from.narrow(to.spread(j));
-    }
-}
 
 // Writes row q: each column leads where the column on the map does.
 // Invariant: the columns before j are written.
@@ -52,7 +41,7 @@ pub fn recolumn(t: WordTable, from: Selection, to: Selection, map: &mut [u32], s
     requires map { sheet.old.shape.width ≤ length map.old }
     ensures { Recolumned t.entry from to sheet.old sheet.new }
 {
-    fill(from, to, sheet.shape.width as u32, map);
+    fill(from, to, map);
     for q in 0..t.table.classes {
         recolumn_row(t.table, q, map, sheet);
         sheet.mark(q, t.table.accepts(Class(q as u32)));

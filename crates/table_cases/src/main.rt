@@ -65,16 +65,16 @@ fn steps_cases(rt: &HostRuntime) -> io::Result<()> {
     steps_case(rt, &[0, 0], &[1], 1)
 }
 
-// That set 0 has exactly one place, which is C, and that it has a multiple of three places and one
-// besides.
+// That set 2 has exactly one place, which is C over the columns of set 2, and that set 1 has a
+// multiple of three places and one besides.
 fn atom_cases(rt: &HostRuntime) -> anyhow::Result<()> {
-    let single = Atom::Related(Relation::Single(0));
+    let single = Atom::Related(Relation::Single(2));
     atom_case(rt, single, 4)?;
     atom_case(rt, single, 2)?;
     let Some(remainder) = Remainder::new(3, 1) else {
         unreachable()
     };
-    let multiple = Atom::Counted(Multiple { remainder, set: 0 });
+    let multiple = Atom::Counted(Multiple { remainder, set: 1 });
     atom_case(rt, multiple, 3)?;
     atom_case(rt, multiple, 2)?;
     Ok(())

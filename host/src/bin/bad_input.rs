@@ -3,8 +3,10 @@
 use std::process::ExitCode;
 use std::time::Instant;
 
+use ceivuron::part::Part;
 use ceivuron::second::guarded::Guarded;
 use ceivuron::second::random::Random;
+use ceivuron::second::widths::widest;
 use ceivuron::{Claim, Verdict};
 
 fn main() -> ExitCode {
@@ -69,11 +71,13 @@ fn input(random: &mut Random) -> Vec<u8> {
     }
 }
 
-/// The bytes of a claim about few sets.
+/// The bytes of a claim of few sets, which may be some of up to twelve.
 fn claim(random: &mut Random) -> Vec<u8> {
     let sets = 1 + random.below(3) as u8;
     let (signs, depth) = (1 + random.below(6), random.below(3));
-    Claim::new(sets, &random.counting_claim(sets, signs, depth)).bytes().to_vec()
+    let part = random.counting_claim(sets, signs, depth);
+    let (sets, part) = if random.one_in(3) { random.among_more(sets, &part) } else { (sets, part) };
+    Claim::new(sets, &part).bytes().to_vec()
 }
 
 /// A claim that counts, alone or as a part: its number, its rest and its set at the edge of what may be, or its end cut off.
@@ -116,11 +120,11 @@ fn mutate(random: &mut Random, bytes: &mut Vec<u8>) {
     }
 }
 
-/// How many classes are allowed: few, and fewer where many sets make each class large.
+/// How many classes are allowed: few, and fewer where a part mentions so many sets that each class is large.
 fn allowed(random: &mut Random, bytes: &[u8]) -> u32 {
-    let most = match bytes.first() {
-        Some(0..=4) | None => 20,
-        Some(5..=7) => 6,
+    let most = match Part::read(bytes).map_or(0, |(_, part)| widest(&part)) {
+        0..=4 => 20,
+        5..=7 => 6,
         _ => 2,
     };
     random.below(most + 1) as u32

@@ -54,7 +54,7 @@ fn main() -> ExitCode {
 }
 
 /// A claim of a sort of which there are not enough yet: at most three in ten hold always, three in ten never; most claims without
-/// `some`, or with a single sign, are passed over.
+/// `some`, or with a single sign, are passed over. One in three is made one of up to twelve sets, any of which it may be about.
 fn draw(random: &mut Random, judge: &mut Judge, tally: &Tally, count: usize) -> (u8, Part) {
     loop {
         let sets = 1 + [0, 1, 1, 1, 2, 2, 2, 2, 3][random.below(9)];
@@ -70,7 +70,7 @@ fn draw(random: &mut Random, judge: &mut Judge, tally: &Tally, count: usize) -> 
             _ => tally.both * 10 < count * 6,
         };
         if fair {
-            return (sets, part);
+            return if random.one_in(3) { random.among_more(sets, &part) } else { (sets, part) };
         }
     }
 }

@@ -7,6 +7,7 @@ use super::holds::{Decider, sets};
 use super::pins::compare_words;
 use super::table::{First, Table, table};
 use super::tally::Tally;
+use super::widths::{self, widest};
 use crate::answer::Answer;
 use crate::claim::Claim;
 use crate::judge::Judge;
@@ -27,6 +28,9 @@ pub type Difference = String;
 /// The most classes that are allowed here.
 const MOST: u32 = 4096;
 
+/// The numbers of classes for which floors are compared: from some on they pass 2^64.
+const FLOORS: [u32; 6] = [0, 1, 31, MOST, 1 << 31, u32::MAX];
+
 /// Compares claims, one after the other.
 pub struct Comparison {
     pub judge: Judge,
@@ -43,7 +47,12 @@ impl Comparison {
     pub fn compare(&mut self, sets: u8, part: &Part, tally: &mut Tally) -> Result<(), Difference> {
         tally.claims += 1;
         tally.note_form(part);
+        tally.among_more += usize::from(u32::from(sets) > widest(part));
         let claim = Claim::new(sets, part);
+        for most in FLOORS {
+            widths::compare(claim.bytes(), most)?;
+            tally.floors += 1;
+        }
         let Some((least, answer)) = least_classes(&mut self.judge, &claim)? else {
             tally.many += 1;
             return Ok(());
@@ -60,7 +69,7 @@ impl Comparison {
             compare_words(&mut self.judge, part, &table, tally)?;
         }
         compare_long_words(part, &answer, self.effort, tally)?;
-        if sets <= 3 {
+        if widest(part) <= 3 {
             compare_classes(&mut self.counter, part, least, self.effort, tally)?;
         }
         Ok(())

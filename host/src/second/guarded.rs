@@ -1,5 +1,6 @@
 //! The call with guard words around everything that it is lent.
 
+use super::widths;
 use crate::call::{Verdict, call};
 use crate::memory::floor;
 use crate::part::Part;
@@ -63,10 +64,12 @@ impl Guarded {
         Ok((verdict, written))
     }
 
-    /// Everything that the contract says about memory, on one claim or what is none: with work of the floor and with more the
-    /// same answer, with one word less *few*; with out of every length around the needed one the two words or their
-    /// lengths; nothing else written. Returns the answer.
+    /// Everything that the contract says about memory, on one claim or what is none: the floor is that of the claim's parts;
+    /// with work of the floor and with more the same answer, with one word less *few*; with out of every length around the
+    /// needed one the two words or their lengths; nothing else written. Returns the answer.
     pub fn check(&mut self, claim: &[u8], most: u32, more: usize) -> Result<Verdict, String> {
+        widths::compare(claim, most)?;
+        widths::compare(claim, u32::MAX)?;
         let words = floor(claim, most) as usize;
         let room = 2 * most as usize;
         let (verdict, written) = self.call(claim, most, room, words)?;

@@ -2,7 +2,8 @@
 //!
 //! Nothing here knows how the proved code works. [`holds`] says whether a claim holds of given sets by trying sets for each
 //! `some`; [`table`] does so for all short words; [`classes`] counts what must be told apart, by its definition, over short
-//! words; [`pinned`] builds claims that are judged in order to ask the call about short words; [`random`] makes claims.
+//! words; [`pinned`] builds claims that are judged in order to ask the call about short words; [`widths`] reckons how many work
+//! words the call must ask for; [`random`] makes claims.
 
 pub mod classes;
 pub mod compared;
@@ -14,3 +15,4 @@ pub mod random;
 pub mod reach;
 pub mod table;
 pub mod tally;
+pub mod widths;

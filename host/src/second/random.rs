@@ -38,6 +38,22 @@ impl Random {
         self.claim_of(Random::counting_sign, sets, signs, depth)
     }
 
+    /// A claim of `sets` sets as one of `of`, of which it mentions as many as before, any of them in any order.
+    pub fn among(&mut self, of: u8, sets: u8, claim: &Part) -> Part {
+        let mut numbers: Vec<u8> = (0..of).collect();
+        for i in 0..usize::from(sets) {
+            let other = i + self.below(numbers.len() - i);
+            numbers.swap(i, other);
+        }
+        claim.renamed(&numbers)
+    }
+
+    /// The same of so many sets that there are up to twelve: how many, and the claim.
+    pub fn among_more(&mut self, sets: u8, claim: &Part) -> (u8, Part) {
+        let of = sets + self.below(usize::from(13 - sets)) as u8;
+        (of, self.among(of, sets, claim))
+    }
+
     /// A claim whose signs without parts are made by `sign`.
     fn claim_of(&mut self, sign: fn(&mut Random, u8) -> Part, sets: u8, signs: usize, depth: usize) -> Part {
         if signs < 2 {

@@ -20,6 +20,10 @@ pub struct Tally {
     pub periods: [usize; 5],
     /// Claims by how deep `some` is nested: 0, 1, 2, 3 or more.
     pub depths: [usize; 4],
+    /// Claims about more sets than any of their parts mentions.
+    pub among_more: usize,
+    /// Floors compared, some for each claim.
+    pub floors: usize,
     /// Claims of which all words of up to so many columns are looked at.
     pub columns: [usize; 7],
     pub words: usize,
@@ -85,6 +89,7 @@ impl fmt::Display for Tally {
         writeln!(f, "  that count by 2 {two}, 3 {three}, 4 {four}, 5 to 12 {to_twelve}, more {beyond}")?;
         let [none, once, twice, more] = self.depths;
         writeln!(f, "  some nested 0 deep {none}, 1 {once}, 2 {twice}, 3 and more {more}")?;
+        writeln!(f, "  about more sets than any part mentions {}; {} floors compared", self.among_more, self.floors)?;
         writeln!(f, "  all words of up to 0, 1, ... 6 columns looked at: {:?} claims", self.columns)?;
         writeln!(
             f,

@@ -5,4 +5,4 @@ use Rattle.selection.proofs.spell.spell.Given as goal
 
 -- the columns before i are spelled, the others as they were
 abbrev pub invariant-loop-i : goal.invariant-loop-i
-invariant-loop-i l = l.word ≡ upto (spread l.sets) l.i l.initial.word
+invariant-loop-i l = l.word ≡ upto (spread l.fn.sets) l.i l.initial.word
