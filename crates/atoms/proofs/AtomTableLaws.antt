@@ -67,6 +67,4 @@ module _ {S : Type 0} (number : S → ℕ) (m : Machine S) (a : Atom) (told : (p
       few = y.few;
       worked = worked_atom number m a told right sets.of s.shape.most t.table.classes x.at (full (moves t.table)) (accepting t.table) explored (tabled_accepted x same t shows) y.joins.cls y.joins.rep o (joined y.joins.cls y.joins.rep o y.joins.joined) (full (entry u.rows.now s.shape.width)) (accepts u.accept.now) (written y.joins.cls y.joins.rep o y.written) y.few;
       shape = y.shape;
-      rows = y.rows;
-      accept = y.accept;
     }

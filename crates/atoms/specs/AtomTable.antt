@@ -14,5 +14,3 @@ pub record Exact (sets : Selection) (s u : Sheet) (c : C) (m : ℕ) : Type 0 whe
   pub few : m ≤ s.shape.most
   pub worked : Worked sets.of s.shape.most c m (wide sets.of (chosen sets) (entry u.rows.now s.shape.width)) (accepts u.accept.now)
   pub shape : u.shape ≡ s.shape
-  pub rows : u.rows.ghost_name ≡ s.rows.ghost_name
-  pub accept : u.accept.ghost_name ≡ s.accept.ghost_name

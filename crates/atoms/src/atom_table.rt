@@ -38,7 +38,9 @@ pub fn atom_table(
     requires mentioned { (z : ℕ) → chosen sets z ≡ named atom z }
     requires columns { sheet.old.shape.sets ≡ count sets }
     requires scratch { 16 * sheet.old.shape.width + 352 ≤ length scratch.old }
-    ensures { MatchOption result (Fits sets.of sheet.old.shape.most (claim atom) → ⊥) (Exact sets sheet.old sheet.new (claim atom)) }
+    ensures table { MatchOption result (Fits sets.of sheet.old.shape.most (claim atom) → ⊥) (Exact sets sheet.old sheet.new (claim atom)) }
+    ensures same_rows { sheet.new.rows.ghost_name ≡ sheet.old.rows.ghost_name }
+    ensures same_accept { sheet.new.accept.ghost_name ≡ sheet.old.accept.ghost_name }
 {
     match atom {
         Atom::Related(relation) => table(relation, sets, &mut [Residual::Dead; 17], scratch, sheet),
@@ -59,7 +61,9 @@ fn table<K: Kind>(
     requires columns { sheet.old.shape.sets ≡ count sets }
     requires found { 17 ≤ length found.old }
     requires scratch { 16 * sheet.old.shape.width + 352 ≤ length scratch.old }
-    ensures { MatchOption result (Fits sets.of sheet.old.shape.most (claim (K.atom kind)) → ⊥) (Exact sets sheet.old sheet.new (claim (K.atom kind))) }
+    ensures table { MatchOption result (Fits sets.of sheet.old.shape.most (claim (K.atom kind)) → ⊥) (Exact sets sheet.old sheet.new (claim (K.atom kind))) }
+    ensures same_rows { sheet.new.rows.ghost_name ≡ sheet.old.rows.ghost_name }
+    ensures same_accept { sheet.new.accept.ghost_name ≡ sheet.old.accept.ghost_name }
 {
     let width = sheet.shape.width;
     let (rows, rest) = scratch.split_at_mut(STATES * width);

@@ -45,7 +45,7 @@ module _ (b : ℕ) (h : Shape) (free rest : ℕ) (cut : rest + slot_words h.widt
   pub rest_free : 4 ≤ b → slot_words h.width h.most ≤ rest
   rest_free g = let t = two_free b h free g l in omega arith
 
--- the words that the call asks for are a slot for the claim's own table, nine free ones, scratch
--- and pairs
-pub whole_room : (n W w : ℕ) → 8192 + (n + 1) * (16 * W + (256 + n)) ≤ w → slot_words W n + (9 * slot_words W n + (scratch_words W n + pair_words n)) ≤ w
+-- the words that the call asks for are a slot for the claim's own table, nine free ones, two spare
+-- ones, scratch and pairs
+pub whole_room : (n W w : ℕ) → 8192 + (n + 1) * (16 * W + (256 + n)) ≤ w → slot_words W n + (9 * slot_words W n + (2 * slot_words W n + (scratch_words W n + pair_words n))) ≤ w
 whole_room n W w h = omega (arith, h)

@@ -1,7 +1,9 @@
 pub mod StandsLaws
+pub mod RoomLaws
 pub mod LentLaws
 pub mod SignLaws
 pub mod HandOnLaws
+pub mod WidenLaws
 pub mod ConjoinLaws
 pub mod QuantifyLaws
 pub mod WorkOutLaws

@@ -84,10 +84,31 @@ module _ (k : ℕ) (s : Sheet) (c : C) (p : Part) (t : Stands Exact k s c p) (r 
   pub reads_worked : Worked k s.shape.most c r.table.classes (wide k (chosen p.sets) (moves r.table)) (accepting r.table)
   reads_worked = rw (h.classes, reads_width, h.rows, h.accept, ← t.of) t.meets
 
+-- A table that was written into rows of w columns stands on the sheet.
+pub stands_made : (wanted : Wanted) (k : ℕ) (u : Sheet) (c : C) (p : Part) (n w : ℕ) → p.sets.of ≡ k → ((z : ℕ) → chosen p.sets z ≡ mentions c z) → count p.sets ≤ u.shape.sets → n ≡ u.shape.most → p.classes ≤ n → w ≡ 2 ^ count p.sets → Meets wanted k n c p.classes (wide k (chosen p.sets) (entry u.rows.now w)) (accepts u.accept.now) → Stands wanted k u c p
+stands_made wanted k u c p n w of mentioned narrow most few width m = record {
+  few = subst (λ n. p.classes ≤ n) most few;
+  of = of;
+  mentioned = mentioned;
+  narrow = narrow;
+  meets = subst (λ k. Meets wanted k u.shape.most c p.classes (wide k (chosen p.sets) (rows_of u p)) (accepts u.accept.now)) (sym of)
+      (subst (λ n. Meets wanted k n c p.classes (wide k (chosen p.sets) (rows_of u p)) (accepts u.accept.now)) most
+      (subst (λ w. Meets wanted k n c p.classes (wide k (chosen p.sets) (entry u.rows.now w)) (accepts u.accept.now)) width m));
+}
+
 -- an exact table is what is wanted, whatever that is
 pub exact_meets : (wanted : Wanted) (k n : ℕ) (c : C) (m : ℕ) (δ : ℕ → ℕ → ℕ) (f : ℕ → Bool) → Worked k n c m δ f → Meets wanted k n c m δ f
 exact_meets Exact k n c m δ f t = t
 exact_meets Any k n c m δ f t = record { table = t.table; ordered = t.ordered; fits = t.fits }
+
+pub stands_wanted : (wanted : Wanted) (k : ℕ) (u : Sheet) (c : C) (p : Part) → Stands Exact k u c p → Stands wanted k u c p
+stands_wanted wanted k u c p t = record {
+  few = t.few;
+  of = t.of;
+  mentioned = t.mentioned;
+  narrow = t.narrow;
+  meets = exact_meets wanted p.sets.of u.shape.most c p.classes (wide p.sets.of (chosen p.sets) (rows_of u p)) (accepts u.accept.now) t.meets;
+}
 
 -- Bytes are one claim only, so a result for that claim is one for the bytes.
 pub out_of : (wanted : Wanted) (k : ℕ) (d : C) (b : List ℕ) (s u : Sheet) (r : Option Part) → Front k d b [] → Result wanted k s u d r → WorkedOut wanted k b s u r

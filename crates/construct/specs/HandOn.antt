@@ -17,5 +17,3 @@ pub record HandedOn (wanted : Wanted) (t : WordTable) (s u : Sheet) (r : ℕ) : 
   pub few : r ≤ s.shape.most
   pub meets : (k : ℕ) (x : ℕ → Bool) (c : C) → t.sets ≡ size k x → Shown k s.shape.most c t.table.classes (wide k x (moves t.table)) (accepting t.table) → Meets wanted k s.shape.most c r (wide k x (entry u.rows.now s.shape.width)) (accepts u.accept.now)
   pub shape : u.shape ≡ s.shape
-  pub rows : u.rows.ghost_name ≡ s.rows.ghost_name
-  pub accept : u.accept.ghost_name ≡ s.accept.ghost_name

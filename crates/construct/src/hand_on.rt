@@ -25,7 +25,9 @@ pub fn hand_on(
     requires sets { t.sets ≡ sheet.old.shape.sets }
     requires scratch { 5 * t.table.classes ≤ length scratch.old }
     requires pairs { t.table.classes * t.table.classes ≤ length pairs.old }
-    ensures { HandedOn wanted t.entry sheet.old sheet.new result }
+    ensures table { HandedOn wanted t.entry sheet.old sheet.new result }
+    ensures same_rows { sheet.new.rows.ghost_name ≡ sheet.old.rows.ghost_name }
+    ensures same_accept { sheet.new.accept.ghost_name ≡ sheet.old.accept.ghost_name }
 {
     match wanted {
         Wanted::Exact => {

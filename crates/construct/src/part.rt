@@ -6,7 +6,7 @@ ghost use Rattle.construct.specs.declared.wanted.Wanted.{Wanted};
 
 use selection::selection::Selection;
 use tables::cells::{Table, WordTable};
-use tables::sheet::Sheet;
+use tables::sheet::{Shape, Sheet};
 
 /// The sets that the part mentions, over whose columns its table is, and how many classes that has.
 #[derive(Clone, Copy)]
@@ -20,14 +20,14 @@ pub fn table<'a>(sheet: &'a Sheet, part: Part) -> WordTable<'a>
     requires { (wanted : Wanted) × (k : ℕ) × (c : C) × Stands wanted k sheet.now c part }
     ensures { Reads sheet.now part result }
 {
-    let sets = part.sets.count();
+    let shape = Shape::new(part.classes, part.sets.count());
     WordTable {
         table: Table {
             rows: sheet.rows,
             accept: sheet.accept,
             classes: part.classes,
-            width: 1usize << sets,
+            width: shape.width,
         },
-        sets,
+        sets: shape.sets,
     }
 }

@@ -31,5 +31,3 @@ pub record Minimized (t : WordTable) (s u : Sheet) (n : ℕ) : Type 0 where
   pub few : n ≤ s.shape.most
   pub written : Written t.sets (moves t.table) (accepting t.table) joins.cls joins.rep n (entry u.rows.now s.shape.width) (accepts u.accept.now)
   pub shape : u.shape ≡ s.shape
-  pub rows : u.rows.ghost_name ≡ s.rows.ghost_name
-  pub accept : u.accept.ghost_name ≡ s.accept.ghost_name

@@ -15,7 +15,9 @@ pub fn minimize(t: WordTable, parts: &mut Parts, sheet: &mut Sheet) -> Option<us
     requires few { t.table.classes < 2 ^ 32 }
     requires room { t.table.classes ≤ parts.old.most }
     requires sets { t.sets ≡ sheet.old.shape.sets }
-    ensures { MatchOption result (TooManyJoined t.entry sheet.old) (Minimized t.entry sheet.old sheet.new) }
+    ensures joined { MatchOption result (TooManyJoined t.entry sheet.old) (Minimized t.entry sheet.old sheet.new) }
+    ensures same_rows { sheet.new.rows.ghost_name ≡ sheet.old.rows.ghost_name }
+    ensures same_accept { sheet.new.accept.ghost_name ≡ sheet.old.accept.ghost_name }
 {
     let n = join(t, parts);
     if n > sheet.shape.most {
