@@ -3,7 +3,7 @@
 // these.
 // Two sets that are one make states that are alike, as for `next x x`, so whether the claim fits is
 // known only once they are joined.
-ghost use Rattle.std.specs.Prelude.{◌≡◌, ℕ, ◌+◌, ◌*◌, ◌≤◌, length, MatchOption};
+ghost use Rattle.std.specs.Prelude.{◌≡◌, ℕ, ◌+◌, ◌*◌, ◌^◌, ◌≤◌, length, MatchOption};
 ghost use Rattle.claims.specs.Claims.{atom as claim};
 ghost use Rattle.claims.specs.Sizes.{Fits};
 ghost use Rattle.kinds.specs.Atoms.{sets_of};
@@ -36,11 +36,9 @@ pub fn atom_table(
 ) -> Option<usize>
     requires about { sets_of atom ≤ sets.of }
     requires mentioned { (z : ℕ) → chosen sets z ≡ named atom z }
-    requires columns { sheet.old.shape.sets ≡ count sets }
-    requires scratch { 16 * sheet.old.shape.width + 352 ≤ length scratch.old }
-    ensures table { MatchOption result (Fits sets.of sheet.old.shape.most (claim atom) → ⊥) (Exact sets sheet.old sheet.new (claim atom)) }
-    ensures same_rows { sheet.new.rows.ghost_name ≡ sheet.old.rows.ghost_name }
-    ensures same_accept { sheet.new.accept.ghost_name ≡ sheet.old.accept.ghost_name }
+    requires columns { count sets ≤ sheet.old.shape.sets }
+    requires scratch { 16 * 2 ^ count sets + 352 ≤ length scratch.old }
+    ensures { MatchOption result (Fits sets.of sheet.old.shape.most (claim atom) → ⊥) (Exact sets sheet.old sheet.new (claim atom)) }
 {
     match atom {
         Atom::Related(relation) => table(relation, sets, &mut [Residual::Dead; 17], scratch, sheet),
@@ -58,22 +56,15 @@ fn table<K: Kind>(
 ) -> Option<usize>
     requires about { sets_of (K.atom kind) ≤ sets.of }
     requires mentioned { (z : ℕ) → chosen sets z ≡ named (K.atom kind) z }
-    requires columns { sheet.old.shape.sets ≡ count sets }
+    requires columns { count sets ≤ sheet.old.shape.sets }
     requires found { 17 ≤ length found.old }
-    requires scratch { 16 * sheet.old.shape.width + 352 ≤ length scratch.old }
-    ensures table { MatchOption result (Fits sets.of sheet.old.shape.most (claim (K.atom kind)) → ⊥) (Exact sets sheet.old sheet.new (claim (K.atom kind))) }
-    ensures same_rows { sheet.new.rows.ghost_name ≡ sheet.old.rows.ghost_name }
-    ensures same_accept { sheet.new.accept.ghost_name ≡ sheet.old.accept.ghost_name }
+    requires scratch { 16 * 2 ^ count sets + 352 ≤ length scratch.old }
+    ensures { MatchOption result (Fits sets.of sheet.old.shape.most (claim (K.atom kind)) → ⊥) (Exact sets sheet.old sheet.new (claim (K.atom kind))) }
 {
-    let width = sheet.shape.width;
-    let (rows, rest) = scratch.split_at_mut(STATES * width);
+    let shape = Shape::new(STATES, sets.count());
+    let (rows, rest) = scratch.split_at_mut(STATES * shape.width);
     let (accept, rest) = rest.split_at_mut(STATES);
     let (parting, index) = rest.split_at_mut(5 * STATES);
-    let shape = Shape {
-        most: STATES,
-        sets: sheet.shape.sets,
-        width,
-    };
     let mut reached = Sheet {
         rows,
         accept,

@@ -2,7 +2,7 @@
 use Rattle.std.specs.Prelude.{◌≡◌, ℕ, ◌+◌, ◌*◌, ◌≤◌, List, ◌++◌, map, string_bytes, codes}
 use Rattle.std.specs.Fmt.{decimal}
 use Rattle.display.specs.Hex.{hex_of}
-use Rattle.workspace.specs.Floor.{floor_words}
+use Rattle.workspace.specs.Floor.{Room}
 use Rattle.trees.specs.declared.tree.Item.{Item}
 use Rattle.resolve.specs.Asks.{declared}
 use Rattle.solve.specs.declared.answer.Answer.{Answer}
@@ -47,7 +47,7 @@ pub record IsLines (items : List Item) (printed : List ℕ) : Type 0 where
   pub fails : List ℕ
   pub put : Puts (names_in items) (HoldsOf items) holds
   pub opposite : Puts (names_in items) (FailsOf items) fails
-  pub fits : (floor_words holds most + 4 * most ≤ 1048576) × (floor_words fails most + 4 * most ≤ 1048576)
+  pub fits : Room holds most × Room fails most
   pub printed_is : printed ≡ line_of most holds ++ line_of most fails
 
 -- the smallest automaton of the text's claim is one that can be drawn; or the words tell how many classes do not suffice for it, and where

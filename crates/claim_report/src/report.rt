@@ -11,7 +11,7 @@ use crate::stop::Stop;
 use crate::told::{InColumns, Told};
 use display::hex::Hex;
 use solve::answer::{Answer, allowed, answered};
-use solve::narrowing::narrowest;
+use solve::narrow::narrowest;
 use solve::question::question_of;
 use std::alloc::{AllocError, Global};
 use syntax::parse::read;

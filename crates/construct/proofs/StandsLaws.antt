@@ -20,11 +20,12 @@ use Rattle.selection.specs.Selections.{chosen, count}
 use Rattle.tables.specs.Cells.{accepts, entry}
 use Rattle.tables.specs.View.{moves, accepting}
 use Rattle.tables.specs.declared.cells.WordTable.{WordTable}
+use Rattle.tables.specs.declared.sheet.Shape.{Shape}
 use Rattle.tables.specs.declared.sheet.Sheet.{Sheet}
 use Rattle.construct.specs.declared.wanted.Wanted.{Wanted}
 use Rattle.construct.specs.declared.wanted.Wanted.TheVariants.{Exact, Any}
 use Rattle.construct.specs.declared.part.Part.{Part}
-use Rattle.construct.specs.Stands.{Meets, Reads, Result, Stands, rows_of}
+use Rattle.construct.specs.Stands.{Meets, Reads, Result, Held, Stands}
 use Rattle.construct.specs.WorkOut.{WorkedOut}
 
 -- What tables as they are wanted have in common.
@@ -43,7 +44,7 @@ meets_fits Any k n c m δ f t = t.fits
 -- What a reader of the table needs.
 module _ (wanted : Wanted) (k : ℕ) (s : Sheet) (c : C) (p : Part) (t : Stands wanted k s c p) where
   abbrev full : ℕ → ℕ → ℕ
-  full = wide p.sets.of (chosen p.sets) (rows_of s p)
+  full = wide p.sets.of (chosen p.sets) (entry s.rows.now (2 ^ count p.sets))
 
   pub stands_table : Table p.sets.of (Of c) p.classes full (accepts s.accept.now)
   stands_table = meets_table wanted p.sets.of s.shape.most c p.classes full (accepts s.accept.now) t.meets
@@ -54,8 +55,8 @@ module _ (wanted : Wanted) (k : ℕ) (s : Sheet) (c : C) (p : Part) (t : Stands 
   pub stands_fits : Fits k s.shape.most c
   stands_fits = subst (λ k. Fits k s.shape.most c) t.of (meets_fits wanted p.sets.of s.shape.most c p.classes full (accepts s.accept.now) t.meets)
 
-  stands_narrow : Connected (count p.sets) p.classes (rows_of s p)
-  stands_narrow = connected_narrow p.sets.of (chosen p.sets) (rows_of s p) p.classes stands_table.connected
+  stands_narrow : Connected (count p.sets) p.classes (entry s.rows.now (2 ^ count p.sets))
+  stands_narrow = connected_narrow p.sets.of (chosen p.sets) (entry s.rows.now (2 ^ count p.sets)) p.classes stands_table.connected
 
   pub stands_start : 0 < p.classes
   stands_start = stands_narrow.start
@@ -84,16 +85,16 @@ module _ (k : ℕ) (s : Sheet) (c : C) (p : Part) (t : Stands Exact k s c p) (r 
   pub reads_worked : Worked k s.shape.most c r.table.classes (wide k (chosen p.sets) (moves r.table)) (accepting r.table)
   reads_worked = rw (h.classes, reads_width, h.rows, h.accept, ← t.of) t.meets
 
--- A table that was written into rows of w columns stands on the sheet.
-pub stands_made : (wanted : Wanted) (k : ℕ) (u : Sheet) (c : C) (p : Part) (n w : ℕ) → p.sets.of ≡ k → ((z : ℕ) → chosen p.sets z ≡ mentions c z) → count p.sets ≤ u.shape.sets → n ≡ u.shape.most → p.classes ≤ n → w ≡ 2 ^ count p.sets → Meets wanted k n c p.classes (wide k (chosen p.sets) (entry u.rows.now w)) (accepts u.accept.now) → Stands wanted k u c p
-stands_made wanted k u c p n w of mentioned narrow most few width m = record {
+-- A table that was written into rows of w columns, for a part that fits the shape.
+pub held_made : (wanted : Wanted) (k : ℕ) (h : Shape) (rows accept : List ℕ) (c : C) (p : Part) (n w : ℕ) → p.sets.of ≡ k → ((z : ℕ) → chosen p.sets z ≡ mentions c z) → count p.sets ≤ h.sets → n ≡ h.most → p.classes ≤ n → w ≡ 2 ^ count p.sets → Meets wanted k n c p.classes (wide k (chosen p.sets) (entry rows w)) (accepts accept) → Held wanted k h rows accept c p
+held_made wanted k h rows accept c p n w of mentioned narrow most few width m = record {
   few = subst (λ n. p.classes ≤ n) most few;
   of = of;
   mentioned = mentioned;
   narrow = narrow;
-  meets = subst (λ k. Meets wanted k u.shape.most c p.classes (wide k (chosen p.sets) (rows_of u p)) (accepts u.accept.now)) (sym of)
-      (subst (λ n. Meets wanted k n c p.classes (wide k (chosen p.sets) (rows_of u p)) (accepts u.accept.now)) most
-      (subst (λ w. Meets wanted k n c p.classes (wide k (chosen p.sets) (entry u.rows.now w)) (accepts u.accept.now)) width m));
+  meets = subst (λ k. Meets wanted k h.most c p.classes (wide k (chosen p.sets) (entry rows (2 ^ count p.sets))) (accepts accept)) (sym of)
+      (subst (λ n. Meets wanted k n c p.classes (wide k (chosen p.sets) (entry rows (2 ^ count p.sets))) (accepts accept)) most
+      (subst (λ w. Meets wanted k n c p.classes (wide k (chosen p.sets) (entry rows w)) (accepts accept)) width m));
 }
 
 -- an exact table is what is wanted, whatever that is
@@ -107,7 +108,7 @@ stands_wanted wanted k u c p t = record {
   of = t.of;
   mentioned = t.mentioned;
   narrow = t.narrow;
-  meets = exact_meets wanted p.sets.of u.shape.most c p.classes (wide p.sets.of (chosen p.sets) (rows_of u p)) (accepts u.accept.now) t.meets;
+  meets = exact_meets wanted p.sets.of u.shape.most c p.classes (wide p.sets.of (chosen p.sets) (entry u.rows.now (2 ^ count p.sets))) (accepts u.accept.now) t.meets;
 }
 
 -- Bytes are one claim only, so a result for that claim is one for the bytes.
@@ -145,7 +146,7 @@ result_swap wanted k s u c d (Some p) y = (
     of = y.1.of;
     mentioned = λ z. y.1.mentioned z ∙ or_swap (mentions c z) (mentions d z);
     narrow = y.1.narrow;
-    meets = meets_swap wanted p.sets.of u.shape.most c d p.classes (wide p.sets.of (chosen p.sets) (rows_of u p)) (accepts u.accept.now) y.1.meets;
+    meets = meets_swap wanted p.sets.of u.shape.most c d p.classes (wide p.sets.of (chosen p.sets) (entry u.rows.now (2 ^ count p.sets))) (accepts u.accept.now) y.1.meets;
   },
 )
 

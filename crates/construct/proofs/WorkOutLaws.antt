@@ -1,10 +1,11 @@
 -- Working a part out, by its sign: what is made of the results of its parts.
-use Rattle.std.proofs.Common.{◌≡◌, ℕ, ◌<◌, Bool, not, List, [], None, Some, Option, sym, ap, ◌∙◌, subst, ⊎_elim, ◌≤◌}
+use Rattle.std.proofs.Common.{◌≡◌, ℕ, ◌^◌, ◌<◌, Bool, not, List, [], None, Some, Option, sym, ap, ◌∙◌, subst, ⊎_elim, ◌≤◌}
 use Rattle.claims.specs.Claims.{C, and1, atom, not1}
 use Rattle.claims.specs.Fronts.{Front}
 use Rattle.claims.specs.Sizes.{Fits}
 use Rattle.kinds.specs.declared.atom.Atom.{Atom}
 use Rattle.claims.proofs.FrontLaws.{same_front}
+use Rattle.atoms.specs.AtomTable.{Exact as ExactTable}
 use Rattle.automata.proofs.Working.{shown_not, worked_not}
 use Rattle.narrowing.specs.Columns.{size}
 use Rattle.narrowing.specs.Mentioned.{named}
@@ -12,12 +13,12 @@ use Rattle.narrowing.specs.Wide.{wide}
 use Rattle.narrowing.proofs.ColumnsLaws.{size_same}
 use Rattle.selection.specs.Selections.{chosen, count}
 use Rattle.selection.specs.declared.selection.Selection.{Selection}
-use Rattle.tables.specs.Cells.{accepts}
+use Rattle.tables.specs.Cells.{accepts, entry}
 use Rattle.tables.specs.declared.sheet.Sheet.{Sheet}
 use Rattle.construct.specs.declared.wanted.Wanted.{Wanted}
 use Rattle.construct.specs.declared.wanted.Wanted.TheVariants.{Exact, Any}
 use Rattle.construct.specs.declared.part.Part.{Part}
-use Rattle.construct.specs.Stands.{Meets, Result, Stands, rows_of}
+use Rattle.construct.specs.Stands.{Meets, Result, Stands}
 use Rattle.construct.specs.WorkOut.{Halves, WorkedOut}
 use Rattle.construct.proofs.StandsLaws.{out_of, result_swap, stands_wanted}
 
@@ -31,6 +32,12 @@ part_unfit k n c d b p f g h y e i t = y d g (h (subst (Fits k n) (sym (same_fro
 -- A claim without parts.
 pub few_sets : (sets : Selection) (k : ℕ) (a : Atom) (v : ℕ) → sets.of ≡ k → ((z : ℕ) → chosen sets z ≡ named a z) → size k (named a) ≤ v → count sets ≤ v
 few_sets sets k a v e m l = subst (λ n. n ≤ v) (sym (size_same k (chosen sets) (named a) m) ∙ ap (λ i. size i (chosen sets)) (sym e)) l
+
+pub leaf_held : (k : ℕ) (s u : Sheet) (a : Atom) (sets : Selection) (m : ℕ) → sets.of ≡ k → ((z : ℕ) → chosen sets z ≡ named a z) → count sets ≤ s.shape.sets → ExactTable sets s u (atom a) m → Result Exact k s u (atom a) (Some record { sets = sets; classes = m })
+leaf_held k s u a sets m of named narrow y = (
+  y.shape,
+  record { few = rw y.shape y.few; of = of; mentioned = named; narrow = rw y.shape narrow; meets = rw y.shape y.worked },
+)
 
 pub leaf_out : (wanted : Wanted) (k : ℕ) (a : Atom) (b : List ℕ) (s u : Sheet) (r : Option Part) → Front k (atom a) b [] → Result Exact k s u (atom a) r → WorkedOut wanted k b s u r
 leaf_out wanted k a b s u None f y = out_of wanted k (atom a) b s u None f y
@@ -49,7 +56,7 @@ not_result wanted k s t u d p x h r e = (
     of = x.1.of;
     mentioned = x.1.mentioned;
     narrow = rw h x.1.narrow;
-    meets = rw (h, r) (not_meets wanted p.sets.of t.shape.most d p.classes (wide p.sets.of (chosen p.sets) (rows_of t p)) (accepts t.accept.now) (accepts u.accept.now) x.1.meets e);
+    meets = rw (h, r) (not_meets wanted p.sets.of t.shape.most d p.classes (wide p.sets.of (chosen p.sets) (entry t.rows.now (2 ^ count p.sets))) (accepts t.accept.now) (accepts u.accept.now) x.1.meets e);
   },
 )
 

@@ -11,9 +11,10 @@ use Rattle.tables.specs.View.{moves, accepting}
 use Rattle.construct.specs.declared.wanted.Wanted.{Wanted}
 use Rattle.construct.specs.Stands.{Meets}
 
--- the sheet was s and is u: a table of r classes stands there, and whichever sets of k the columns
--- are of, and whichever claim the table says over these, it is a table of that claim as it is wanted
+-- the sheet was s and is u: a table of r classes stands there, in rows as wide as those of t;
+-- whichever sets of k the columns are of, and whichever claim t says over these, it is a table of
+-- that claim as it is wanted
 pub record HandedOn (wanted : Wanted) (t : WordTable) (s u : Sheet) (r : ℕ) : Type 0 where
   pub few : r ≤ s.shape.most
-  pub meets : (k : ℕ) (x : ℕ → Bool) (c : C) → t.sets ≡ size k x → Shown k s.shape.most c t.table.classes (wide k x (moves t.table)) (accepting t.table) → Meets wanted k s.shape.most c r (wide k x (entry u.rows.now s.shape.width)) (accepts u.accept.now)
+  pub meets : (k : ℕ) (x : ℕ → Bool) (c : C) → t.sets ≡ size k x → Shown k s.shape.most c t.table.classes (wide k x (moves t.table)) (accepting t.table) → Meets wanted k s.shape.most c r (wide k x (entry u.rows.now t.table.width)) (accepts u.accept.now)
   pub shape : u.shape ≡ s.shape

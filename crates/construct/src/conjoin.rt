@@ -79,11 +79,6 @@ pub fn conjoin(
         index: &mut *pairs,
     };
     let count = product(&mut found, &mut product_sheet)?;
-    let mut narrow = Sheet {
-        rows: &mut *sheet.rows,
-        accept: &mut *sheet.accept,
-        shape,
-    };
-    let classes = hand_on(product_sheet.table(count), wanted, scratch, pairs, &mut narrow);
+    let classes = hand_on(product_sheet.table(count), wanted, scratch, pairs, sheet);
     Some(Part { sets: both, classes })
 }

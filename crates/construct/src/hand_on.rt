@@ -10,7 +10,8 @@ use tables::copy::copy;
 use tables::sheet::Sheet;
 
 /// Writes the table on the sheet as it is wanted: exact, with its classes that are alike joined, or
-/// as it is. How many classes it has there.
+/// as it is. How many classes it has there. The sheet may be for tables of more columns; the rows
+/// are as wide as those of the table.
 /// Scratch is five words for each class, and as many pairs as there are of classes; more of these
 /// make joining faster.
 pub fn hand_on(
@@ -22,12 +23,10 @@ pub fn hand_on(
 ) -> usize
     requires some { 0 < t.table.classes }
     requires few { t.table.classes ≤ sheet.old.shape.most }
-    requires sets { t.sets ≡ sheet.old.shape.sets }
+    requires sets { t.sets ≤ sheet.old.shape.sets }
     requires scratch { 5 * t.table.classes ≤ length scratch.old }
     requires pairs { t.table.classes * t.table.classes ≤ length pairs.old }
-    ensures table { HandedOn wanted t.entry sheet.old sheet.new result }
-    ensures same_rows { sheet.new.rows.ghost_name ≡ sheet.old.rows.ghost_name }
-    ensures same_accept { sheet.new.accept.ghost_name ≡ sheet.old.accept.ghost_name }
+    ensures { HandedOn wanted t.entry sheet.old sheet.new result }
 {
     match wanted {
         Wanted::Exact => {

@@ -12,7 +12,7 @@ use crate::work::Work;
 use atoms::atom_table::atom_table;
 use kinds::atom::Atom;
 use selection::mentioned::mentioned;
-use tables::sheet::{Shape, Sheet};
+use tables::sheet::Sheet;
 
 /// The exact table of the claim, written on the sheet: the part that it is, or that it does not fit.
 pub fn leaf(atom: Atom, sheet: &mut Sheet, work: &mut Work) -> Option<Part>
@@ -25,13 +25,7 @@ pub fn leaf(atom: Atom, sheet: &mut Sheet, work: &mut Work) -> Option<Part>
     ensures free { length work.new.free.now ≡ length work.old.free.now }
 {
     let sets = mentioned(atom, work.sets);
-    let shape = Shape::new(work.shape.most, sets.count());
     let scratch = &mut *work.scratch;
-    let mut narrow = Sheet {
-        rows: &mut *sheet.rows,
-        accept: &mut *sheet.accept,
-        shape,
-    };
-    let classes = atom_table(atom, sets, scratch, &mut narrow)?;
+    let classes = atom_table(atom, sets, scratch, sheet)?;
     Some(Part { sets, classes })
 }

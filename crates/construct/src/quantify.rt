@@ -87,11 +87,6 @@ pub fn quantify(
     };
     let count = subsets(&mut found, &mut reached)?;
     recolumn(reached.table(count), part.sets, sets, map, &mut left_out);
-    let mut sheet = Sheet {
-        rows: &mut *sheet.rows,
-        accept: &mut *sheet.accept,
-        shape: narrow,
-    };
-    let classes = hand_on(left_out.table(count), wanted, scratch, pairs, &mut sheet);
+    let classes = hand_on(left_out.table(count), wanted, scratch, pairs, sheet);
     Some(Part { sets, classes })
 }

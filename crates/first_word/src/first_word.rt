@@ -1,7 +1,7 @@
 // A claim's first word, as a value of its own.
-ghost use Rattle.std.specs.Prelude.{◌+◌, ◌*◌, ◌≤◌, IfOk};
+ghost use Rattle.std.specs.Prelude.{IfOk};
 ghost use Rattle.claims.specs.Rows.{IsClaim};
-ghost use Rattle.workspace.specs.Floor.{floor_words};
+ghost use Rattle.workspace.specs.Floor.{Room};
 ghost use Rattle.first_word.specs.Finding.{Finds};
 
 use lengths::judge::judge;
@@ -24,7 +24,7 @@ pub enum Found {
 /// first words.
 pub fn first_word(alloc: Global, claim: &[u8], n: u32) -> Result<Found, AllocError>
     requires claim { IsClaim claim.now }
-    requires fits { floor_words claim.now n + 4 * n ≤ 1048576 }
+    requires fits { Room claim.now n }
     ensures { IfOk result (λ found. Finds claim.now n found) }
 {
     let mut work = vec![in alloc; 0u32; floor(claim, n) as usize]?;

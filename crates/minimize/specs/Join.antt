@@ -25,9 +25,11 @@ pub record TooManyJoined (t : WordTable) (s : Sheet) : Type 0 where
   pub joins : Joins t count
   pub many : s.shape.most < count
 
--- and the table of these stands on the sheet, which was s and is u
+-- and the table of these stands on the sheet, which was s and is u, in rows as wide as the table's
 pub record Minimized (t : WordTable) (s u : Sheet) (n : ℕ) : Type 0 where
   pub joins : Joins t n
   pub few : n ≤ s.shape.most
-  pub written : Written t.sets (moves t.table) (accepting t.table) joins.cls joins.rep n (entry u.rows.now s.shape.width) (accepts u.accept.now)
+  pub written : Written t.sets (moves t.table) (accepting t.table) joins.cls joins.rep n (entry u.rows.now t.table.width) (accepts u.accept.now)
   pub shape : u.shape ≡ s.shape
+  pub rows : u.rows.ghost_name ≡ s.rows.ghost_name
+  pub accept : u.accept.ghost_name ≡ s.accept.ghost_name

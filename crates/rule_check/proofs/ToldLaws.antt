@@ -1,11 +1,11 @@
 -- From what is found of a property's claim to what is told of rows.
-use Rattle.std.proofs.Common.{◌≡◌, ℕ, suc, ◌+◌, ◌*◌, ◌<◌, ◌≤◌, List, [], ◌∷◌, sym, subst}
+use Rattle.std.proofs.Common.{◌≡◌, ℕ, suc, ◌+◌, ◌<◌, ◌≤◌, List, [], ◌∷◌, sym, subst}
 use Rattle.words.specs.Words.{Sets, Word, Columns, sets}
 use Rattle.claims.specs.Claims.{Holds, not1, within as lies_within}
 use Rattle.formulas.specs.declared.formula.Formula.{Formula}
 use Rattle.claims.specs.Rows.{row}
 use Rattle.claims.specs.Encoded.{sets_needed}
-use Rattle.workspace.specs.Floor.{floor_words}
+use Rattle.workspace.specs.Floor.{NoRoom}
 use Rattle.translation.proofs.Opened.{within_itself}
 use Rattle.rows.specs.RowClaims.{same_number, marked, Tells, First as FirstRow}
 use Rattle.rows.specs.Faults.{allowed_part, fault_part, RuleClaims}
@@ -50,7 +50,7 @@ module _ (r : Rule) where
   tells (Met q) n = all_tell.place q (is_true _ n)
   tells (Fails a) n = all_tell.fails (named_after r.bits a.value) a.value (has_named_them r.bits a.value (is_true _ n))
 
-pub told : (r : Rule) (p : Property) (k most n : ℕ) (v : Verdict) → IsOf r p → r.bits < k → k ≡ sets_needed (suc r.bits) (claim_of r p) → n ≤ most → (n < most → 1048576 < floor_words (k ∷ row (claim_of r p)) (n + 1) + 4 * (n + 1)) →
+pub told : (r : Rule) (p : Property) (k most n : ℕ) (v : Verdict) → IsOf r p → r.bits < k → k ≡ sets_needed (suc r.bits) (claim_of r p) → n ≤ most → (n < most → NoRoom (k ∷ row (claim_of r p)) (n + 1)) →
     Found r.bits k (claim_of r p) n v → Told r p most v
 told r p k most n Never h l e within memory f = (tells r p h).never k l f
 told r p k most n (First w) h l e within memory f =

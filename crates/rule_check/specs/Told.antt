@@ -1,11 +1,11 @@
 -- What an answer on a property says of rows, however long.
-use Rattle.std.specs.Prelude.{◌≡◌, ℕ, suc, ◌+◌, ◌*◌, ◌<◌, ◌≤◌, ◌∷◌}
+use Rattle.std.specs.Prelude.{◌≡◌, ℕ, suc, ◌+◌, ◌<◌, ◌≤◌, ◌∷◌}
 use Rattle.words.specs.Words.{Word, Columns}
 use Rattle.claims.specs.Claims.{C, Of}
 use Rattle.claims.specs.Sizes.{Fits}
 use Rattle.claims.specs.Rows.{row}
 use Rattle.claims.specs.Encoded.{sets_needed}
-use Rattle.workspace.specs.Floor.{floor_words}
+use Rattle.workspace.specs.Floor.{NoRoom}
 use Rattle.rows.specs.RowClaims.{marked, First as FirstRow}
 use Rattle.rules.specs.Property.{Has, claim_of}
 use Rattle.rules.specs.declared.rule.Rule.{Rule}
@@ -23,7 +23,7 @@ Found b k c n (TooLarge m) = (m ≡ n) × (Fits k n c → ⊥)
 pub record TooMany (k : ℕ) (c : C) (most n : ℕ) : Type 0 where
   pub many : Fits k n c → ⊥
   pub within : n ≤ most
-  pub memory : n < most → 1048576 < floor_words (k ∷ row c) (n + 1) + 4 * (n + 1)
+  pub memory : n < most → NoRoom (k ∷ row c) (n + 1)
 
 -- no row of modules has the property, however long; this row is the first that has it; or its claim is too large
 abbrev pub Told : Rule → Property → ℕ → Verdict → Type 0

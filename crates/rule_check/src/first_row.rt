@@ -3,7 +3,7 @@ ghost use Rattle.std.specs.Prelude.{ℕ, suc, ◌+◌, ◌*◌, ◌<◌, ◌≤�
 ghost use Rattle.claims.specs.Claims.{C};
 ghost use Rattle.claims.specs.Rows.{Claim, IsClaim};
 ghost use Rattle.claims.specs.Encoded.{Refused};
-ghost use Rattle.workspace.specs.Floor.{floor_words};
+ghost use Rattle.workspace.specs.Floor.{Room};
 ghost use Rattle.rules.specs.Property.{claim_of};
 ghost use Rattle.rule_check.specs.Told.{Found as IsFound, Told};
 
@@ -20,7 +20,7 @@ use workspace::largest::largest;
 fn found(alloc: Global, bits: u8, claim: &[u8], n: u32) -> Result<Verdict, AllocError>
     requires few { bits < 32 }
     requires claim { IsClaim claim.now }
-    requires fits { floor_words claim.now n + 4 * n ≤ 1048576 }
+    requires fits { Room claim.now n }
     ensures { IfOk result (λ v. (k : ℕ) (c : C) → Claim claim.now k c → IsFound bits k c n v) }
 {
     match first_word(alloc, claim, n)? {

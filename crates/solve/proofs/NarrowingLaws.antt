@@ -1,7 +1,7 @@
 -- Which formulas are large, and which are not.
 use Rattle.std.proofs.Common.{◌≡◌, ℕ, ◌+◌, ◌*◌, ◌≤◌, ◌↔◌, Bool, true, false, IsTrue, List, [], ◌∷◌, length, inl, inr, sym, subst, ap, ◌∙◌, arith}
 use mathlib.Core.Bool.{false≢true}
-use Rattle.workspace.specs.Floor.{floor_words}
+use Rattle.workspace.specs.Floor.{Room}
 use Rattle.claims.proofs.ClaimLaws.{claim_bounds}
 use Rattle.claims.specs.declared.encode.Refusal.TheVariants.{TooManyBytes, TooManySets}
 use Rattle.formulas.specs.declared.name.Name.{Name}
@@ -31,12 +31,12 @@ many_sets n a m r j =
     absurd (omega (arith, r.0, b.high))
 
 -- nor can what has no room
-pub no_room : (n : ℕ) (a : Formula) (s : List ℕ) (fits : Bool) → Claimed (own_names a) a s → IsTrue fits ↔ (floor_words s n + 4 * n ≤ 1048576) → fits ≡ false → IsSmall n a
+pub no_room : (n : ℕ) (a : Formula) (s : List ℕ) (fits : Bool) → Claimed (own_names a) a s → IsTrue fits ↔ Room s n → fits ≡ false → IsSmall n a
 no_room n a s fits c f e j =
-    let room = subst (λ t. floor_words t n + 4 * n ≤ 1048576) (same_bytes (own_names a) a j.0 s j.1 c) j.2 in
+    let room = subst (λ t. Room t n) (same_bytes (own_names a) a j.0 s j.1 c) j.2 in
     absurd (false≢true (sym e ∙ f.1 room))
 
-pub is_large : (n : ℕ) (a : Formula) (s : List ℕ) (fits : Bool) → Claimed (own_names a) a s → IsTrue fits ↔ (floor_words s n + 4 * n ≤ 1048576) → fits ≡ true →
+pub is_large : (n : ℕ) (a : Formula) (s : List ℕ) (fits : Bool) → Claimed (own_names a) a s → IsTrue fits ↔ Room s n → fits ≡ true →
     ((l : List Name) (b : Formula) → Claimed l b s → Tells l b n TooLarge) → IsLarge n a
 is_large n a s fits c f e told = ((s, c, f.0 e), told (own_names a) a c)
 

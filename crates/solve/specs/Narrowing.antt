@@ -1,7 +1,7 @@
 -- Which part of a text is named where its claim is too large.
-use Rattle.std.specs.Prelude.{◌≡◌, ℕ, ◌+◌, ◌*◌, ◌≤◌, cond, List, [], ◌∷◌, ◌++◌, Option, Some, None}
+use Rattle.std.specs.Prelude.{◌≡◌, ℕ, cond, List, [], ◌∷◌, ◌++◌, Option, Some, None}
 use Rattle.std.specs.List.{list_any}
-use Rattle.workspace.specs.Floor.{floor_words}
+use Rattle.workspace.specs.Floor.{Room}
 use Rattle.formulas.specs.declared.name.Name.{Name}
 use Rattle.formulas.specs.declared.formula.Formula.{Formula}
 use Rattle.formulas.specs.Names.{names, same_name}
@@ -29,7 +29,7 @@ own_names a = with_names [] (names a)
 
 -- the formula by itself has a claim, about its own names, and n classes can be told apart at it in 4 MiB
 abbrev pub CanBeJudged : ℕ → Formula → Type 0
-CanBeJudged n a = (bytes : List ℕ) × Claimed (own_names a) a bytes × (floor_words bytes n + 4 * n ≤ 1048576)
+CanBeJudged n a = (bytes : List ℕ) × Claimed (own_names a) a bytes × Room bytes n
 
 -- more than n classes have to be told apart at the formula's claim
 abbrev pub IsLarge : ℕ → Formula → Type 0

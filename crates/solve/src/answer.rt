@@ -1,6 +1,6 @@
 // The answer to a text that is read.
-ghost use Rattle.std.specs.Prelude.{◌+◌, ◌*◌, ◌≤◌, IfOk};
-ghost use Rattle.workspace.specs.Floor.{floor_words};
+ghost use Rattle.std.specs.Prelude.{IfOk};
+ghost use Rattle.workspace.specs.Floor.{Room};
 ghost use Rattle.solve.specs.Answers.{Answers};
 
 use crate::first::first_row;
@@ -28,8 +28,8 @@ pub enum Answer {
 
 /// How many classes may be told apart: as many as are wanted, or as many as both claims fit with. Fails where more are wanted than fit.
 pub fn allowed(question: &Question, wanted: Option<u32>) -> Result<u32, Stop>
-    ensures holds { IfOk result (λ n. floor_words question.now.holds.items n + 4 * n ≤ 1048576) }
-    ensures fails { IfOk result (λ n. floor_words question.now.fails.items n + 4 * n ≤ 1048576) }
+    ensures holds { IfOk result (λ n. Room question.now.holds.items n) }
+    ensures fails { IfOk result (λ n. Room question.now.fails.items n) }
 {
     let most = largest(&question.fails, largest(&question.holds, u32::MAX));
     let n = wanted.unwrap_or(most);

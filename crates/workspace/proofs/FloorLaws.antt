@@ -1,10 +1,10 @@
 -- The floor is read from bytes in one way, and is never above what the first byte would ask for.
-use Rattle.std.proofs.Common.{◌≡◌, ℕ, ◌+◌, ◌*◌, ◌%◌, ◌^◌, ◌<◌, ◌≤◌, min, mod-eq_of_lt, List, ◌∷◌, length, refl, sym, ap, ◌∙◌, subst, arith, Some, None, Option, MatchOption}
+use Rattle.std.proofs.Common.{◌≡◌, ℕ, ◌+◌, ◌*◌, ◌%◌, ◌^◌, ◌≤◌, min, mod-eq_of_lt, List, length, refl, sym, ap, ◌∙◌, subst, arith, Some, None, Option}
 use native.Mathlib.Decide.{ℕ_discrete, dec_le}
 use Rattle.std.proofs.Math.Nat.{mul-le-mul_left, one-mul}
 use Rattle.std.proofs.Math.Pow.{pow_mono}
 use Rattle.claims.specs.Claims.{C}
-use Rattle.claims.specs.Rows.{Claim, IsClaim, row}
+use Rattle.claims.specs.Rows.{Claim, IsClaim}
 use Rattle.claims.proofs.ClaimLaws.{claim_bounds}
 use Rattle.claims.proofs.OneClaim.{one_claim}
 use Rattle.narrowing.specs.Mentioned.{widest}

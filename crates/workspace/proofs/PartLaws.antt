@@ -1,5 +1,5 @@
 -- What is read of a claim that bytes begin with, from what is read of its parts.
-use Rattle.std.proofs.Common.{◌≡◌, ℕ, ◌-◌, ◌<◌, ◌≤◌, max, Bool, true, false, not, ◌||◌, ◌&&◌, eqb, List, ◌∷◌, ◌++◌, [], length, take, drop, sym, refl, ap, ◌∙◌, subst, arith, inl, inr, Some, None, Option, MatchOption, le→leb, lt→ltb}
+use Rattle.std.proofs.Common.{◌≡◌, ℕ, ◌-◌, ◌<◌, ◌≤◌, max, Bool, false, not, ◌||◌, ◌&&◌, List, ◌∷◌, ◌++◌, [], length, take, drop, sym, ap, ◌∙◌, subst, arith, inl, inr, le→leb, lt→ltb}
 use Rattle.std.proofs.lemmas.Bool.Decides.{eqb_tells}
 use Rattle.std.proofs.lemmas.List.{take_rest}
 use Rattle.kinds.specs.Atoms.{row_of, sets_of}

@@ -1,7 +1,7 @@
 use Rattle.atoms.proofs.atom_table.atom_table.Goals as goal
 
-pub returns-in-Related-clause-table : goal.returns-in-Related-clause-table
-returns-in-Related-clause-table c = rw c.in-Related.is c.table.ensures.table
+pub returns-in-Related : goal.returns-in-Related
+returns-in-Related c = rw c.in-Related.is c.table.ensures
 
-pub returns-in-Counted-clause-table : goal.returns-in-Counted-clause-table
-returns-in-Counted-clause-table c = rw c.in-Counted.is c.table-in-Counted.ensures.table
+pub returns-in-Counted : goal.returns-in-Counted
+returns-in-Counted c = rw c.in-Counted.is c.table-in-Counted.ensures

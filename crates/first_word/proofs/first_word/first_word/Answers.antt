@@ -19,6 +19,8 @@ returns-in-Both c = λ k d claim.
 
 pub unreachable-requires : goal.unreachable-requires
 unreachable-requires c =
-    let memory : floor_words c.args.claim.now c.args.n ≤ length c.deref_mut-2.result.now = omega (arith, c.deref_mut-2.ensures.len, c.in_ok-work.ensures.len, c.floor.ensures) in
+    let (v, width, floor) = c.floor.ensures.value in
+    let fits = c.requires.fits v width in
+    let memory : floor_words v c.args.claim.now c.args.n ≤ length c.deref_mut-2.result.now = omega (arith, c.deref_mut-2.ensures.len, c.in_ok-work.ensures.len, floor) in
     let room : 2 * c.args.n ≤ length c.deref_mut.result.now = omega (arith, c.deref_mut.ensures.len, c.in_ok-out.ensures.len) in
-    answered _ _ _ _ _ _ c.judge.ensures c.requires.claim memory room c.in-NoClaim.is
+    answered _ _ _ _ _ _ c.judge.ensures c.requires.claim v width memory room c.in-NoClaim.is

@@ -1,6 +1,4 @@
-use Rattle.std.proofs.Common.{◌≡◌, ℕ, ◌+◌, ◌*◌, ◌%◌, ◌^◌, length, ap, ◌∙◌, arith}
 use Rattle.workspace.specs.Extents.{widest_of}
-use Rattle.workspace.specs.Floor.{floor_words}
 use Rattle.workspace.proofs.FloorLaws.{extent_width, asked}
 use Rattle.workspace.proofs.floor.floor_of.Goals as goal
 

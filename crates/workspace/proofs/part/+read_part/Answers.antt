@@ -1,4 +1,4 @@
-use Rattle.std.proofs.Common.{◌≡◌, ℕ, List, ◌∷◌, refl, Some, None, Option, arith, ltb→lt, leb→le, Bor, MatchOption}
+use Rattle.std.proofs.Common.{◌≡◌, ℕ, List, ◌∷◌, refl, Some, None, Option, arith, ltb→lt, leb→le, MatchOption}
 use Rattle.kinds.specs.Atoms.{sets_of}
 use Rattle.claims.specs.Claims.{C, atom, not1, and1, some}
 use Rattle.claims.specs.Fronts.{NoFront}

@@ -1,6 +1,6 @@
 use Rattle.parts.specs.Parts.{piece_of, itself, inside}
 use Rattle.parts.proofs.PartsLaws.{parts_smaller}
-use Rattle.solve.proofs.narrowing.innermost.Goals as goal
+use Rattle.solve.proofs.narrow.innermost.Goals as goal
 
 pub loop-inner-init : goal.loop-inner-init
 loop-inner-init c = record { within = itself; large = c.requires }

@@ -2,7 +2,7 @@ use Rattle.std.proofs.Common.{subst, ◌∙◌}
 use Rattle.formula_claims.specs.Claimed.{Refused}
 use Rattle.formula_claims.specs.declared.claimed.Refusal.TheVariants.{Unlisted}
 use Rattle.solve.proofs.NarrowingLaws.{unlisted}
-use Rattle.solve.proofs.narrowing.is_large.Goals as goal
+use Rattle.solve.proofs.narrow.is_large.Goals as goal
 
 pub returns-in-Err-Unlisted : goal.returns-in-Err-Unlisted
 returns-in-Err-Unlisted c =

@@ -1,6 +1,6 @@
 use Rattle.std.proofs.Common.{refl}
 use Rattle.parts.specs.Parts.{piece_of}
-use Rattle.solve.proofs.narrowing.narrowest_of.Goals as goal
+use Rattle.solve.proofs.narrow.narrowest_of.Goals as goal
 
 pub returns-in_ok-innermost-in-Some : goal.returns-in_ok-innermost-in-Some
 returns-in_ok-innermost-in-Some c =
