@@ -74,7 +74,7 @@ module _ (k n : ℕ) (s : ℕ → Bool) (c : C) (p : WordTable) (sets : p.sets �
 
       explored : Explored k large (start_set alive) r.table.classes z.at (wide k s (moves r.table))
       explored = explored_wide k s large small (set_sees k x s below has p.table.classes (moves p.table) alive) (start_set alive) r.table.classes z.at (moves r.table)
-          (subst (λ u. Explored u small (start_set alive) r.table.classes z.at (moves r.table)) sets (subst (λ y. Explored p.sets (step_set p.table.classes (moves p.table) alive y) (start_set alive) r.table.classes z.at (moves r.table)) place (tabled_explored z same r shows)))
+          (subst (λ u. Explored u small (start_set alive) r.table.classes z.at (moves r.table)) some_sets (subst (λ y. Explored r.sets (step_set p.table.classes (moves p.table) alive y) (start_set alive) r.table.classes z.at (moves r.table)) place (tabled_explored z same r shows)))
 
       pub some_shown : Shown k n (some x c) r.table.classes (wide k s (moves r.table)) (accepting r.table)
       some_shown = shown_some k n x c p.table.classes full (accepting p.table) v below alive (lives_below p.table.classes dead) alive_full r.table.classes z.at (wide k s (moves r.table)) (accepts completed) (accepting r.table) explored
