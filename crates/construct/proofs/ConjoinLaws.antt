@@ -26,7 +26,7 @@ use Rattle.construct.specs.Widen.{Widened}
 use Rattle.construct.specs.declared.part.Part.{Part}
 use Rattle.construct.specs.declared.wanted.Wanted.{Wanted}
 use Rattle.construct.specs.declared.wanted.Wanted.TheVariants.{Exact}
-use Rattle.construct.proofs.StandsLaws.{held_made, reads_worked}
+use Rattle.construct.proofs.StandsLaws.{stands_made, reads_worked}
 use Rattle.construct.proofs.WidenLaws.{widened_worked}
 use Rattle.worklist.specs.Search.{Tabled, Excess}
 use Rattle.worklist.proofs.SearchLaws.{tabled_sets, tabled_explored, tabled_accepted}
@@ -93,6 +93,6 @@ module _ {k : ℕ} {h : Shape} (s : Sheet) (left : Part) (right : Selection) (o 
       pub both_result : {wanted : Wanted} (u : Sheet) {m : ℕ} → HandedOn wanted r s u m → count both ≤ h.sets → Result wanted k s u (and1 c d) (Some record { sets = both; classes = m })
       both_result {wanted = wanted} u {m = m} y few = (
         y.shape,
-        held_made wanted k u.shape u.rows.now u.accept.now (and1 c d) record { sets = both; classes = m } s.shape.most r.table.width k_is mentioned (rw (y.shape, e) few) (ap (λ g. g.most) (sym y.shape)) y.few
+        stands_made wanted k u (and1 c d) record { sets = both; classes = m } s.shape.most r.table.width k_is mentioned (rw (y.shape, e) few) (ap (λ g. g.most) (sym y.shape)) y.few
         (r.wide ∙ ap (λ v. 2 ^ v) both_columns) (y.meets k (chosen both) (and1 c d) (both_columns ∙ ap (λ i. size i (chosen both)) k_is) shown),
       )

@@ -37,7 +37,7 @@ use Rattle.construct.specs.Stands.{Reads, Result, Stands}
 use Rattle.construct.specs.declared.part.Part.{Part}
 use Rattle.construct.specs.declared.wanted.Wanted.{Wanted}
 use Rattle.construct.specs.declared.wanted.Wanted.TheVariants.{Exact}
-use Rattle.construct.proofs.StandsLaws.{held_made, reads_worked, stands_wanted}
+use Rattle.construct.proofs.StandsLaws.{stands_made, reads_worked, stands_wanted}
 use Rattle.worklist.specs.Search.{Tabled, Excess}
 use Rattle.worklist.proofs.SearchLaws.{tabled_sets, tabled_explored, tabled_accepted}
 
@@ -187,6 +187,6 @@ module _ {k : ℕ} {h : Shape} (s : Sheet) (part : Part) (sets : Selection) (p :
         pub out_result : (wanted : Wanted) (u : Sheet) {m : ℕ} → HandedOn wanted o s u m → Result wanted k s u (some x c) (Some record { sets = sets; classes = m })
         out_result wanted u {m = m} d = (
           d.shape,
-          held_made wanted k u.shape u.rows.now u.accept.now (some x c) record { sets = sets; classes = m } s.shape.most o.table.width k_is (some_mentioned c x (chosen part.sets) (chosen sets) t.mentioned gone others) (rw d.shape (omega (arith, fewer, t.narrow))) (ap (λ g. g.most) (sym d.shape)) d.few
+          stands_made wanted k u (some x c) record { sets = sets; classes = m } s.shape.most o.table.width k_is (some_mentioned c x (chosen part.sets) (chosen sets) t.mentioned gone others) (rw d.shape (omega (arith, fewer, t.narrow))) (ap (λ g. g.most) (sym d.shape)) d.few
           (o.wide ∙ ap (λ v. 2 ^ v) o_columns) (d.meets k (chosen sets) (some x c) (o_columns ∙ ap (λ i. size i (chosen sets)) k_is) o_shown),
         )
