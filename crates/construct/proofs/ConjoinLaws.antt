@@ -6,7 +6,7 @@ use Rattle.automata.specs.Worked.{Shown, Worked}
 use Rattle.automata.proofs.Working.{shown_and, many_and}
 use Rattle.claims.specs.Claims.{C, and1}
 use Rattle.claims.specs.Sizes.{Fits}
-use Rattle.narrowing.specs.Columns.{size, extract}
+use Rattle.narrowing.specs.Columns.{size}
 use Rattle.narrowing.specs.Mentioned.{mentions}
 use Rattle.narrowing.specs.Wide.{wide}
 use Rattle.narrowing.proofs.ColumnsLaws.{size_same}
@@ -94,5 +94,5 @@ module _ {k : ℕ} {h : Shape} (s : Sheet) (left : Part) (right : Selection) (o 
       both_result {wanted = wanted} u {m = m} y few = (
         y.shape,
         stands_made wanted k u (and1 c d) record { sets = both; classes = m } s.shape.most r.table.width k_is mentioned (rw (y.shape, e) few) (ap (λ g. g.most) (sym y.shape)) y.few
-        (r.wide ∙ ap (λ v. 2 ^ v) both_columns) (y.meets k (chosen both) (and1 c d) (both_columns ∙ ap (λ i. size i (chosen both)) k_is) shown),
+            (r.wide ∙ ap (λ v. 2 ^ v) both_columns) (y.meets k (chosen both) (and1 c d) (both_columns ∙ ap (λ i. size i (chosen both)) k_is) shown),
       )

@@ -1,9 +1,8 @@
 -- From an exact table to the table of its sets of live classes, which says "some set x", or that
 -- this does not fit.
-use Rattle.std.proofs.Common.{◌≡◌, ℕ, ◌^◌, ◌<◌, ◌≤◌, Bool, true, false, eqb, ◌&&◌, ◌↔◌, List, Option, Some, sym, refl, ap, ap₂, ◌∙◌, subst, inl, inr, arith}
+use Rattle.std.proofs.Common.{◌≡◌, ℕ, ◌^◌, ◌<◌, ◌≤◌, Bool, true, false, ◌↔◌, List, Option, Some, sym, refl, ap, ap₂, ◌∙◌, subst, inl, inr, arith}
 use mathlib.Core.Bool.{false≢true}
 use Rattle.std.proofs.lemmas.Bool.Decides.{eqb_tells}
-use Rattle.words.specs.Bits.{put_bit}
 use Rattle.automata.specs.Search.{Explored, TooMany}
 use Rattle.automata.specs.Subsets.{Completes, Live, start_set, step_set}
 use Rattle.automata.specs.Tables.{Collapsed, Connected}
@@ -188,5 +187,5 @@ module _ {k : ℕ} {h : Shape} (s : Sheet) (part : Part) (sets : Selection) (p :
         out_result wanted u {m = m} d = (
           d.shape,
           stands_made wanted k u (some x c) record { sets = sets; classes = m } s.shape.most o.table.width k_is (some_mentioned c x (chosen part.sets) (chosen sets) t.mentioned gone others) (rw d.shape (omega (arith, fewer, t.narrow))) (ap (λ g. g.most) (sym d.shape)) d.few
-          (o.wide ∙ ap (λ v. 2 ^ v) o_columns) (d.meets k (chosen sets) (some x c) (o_columns ∙ ap (λ i. size i (chosen sets)) k_is) o_shown),
+              (o.wide ∙ ap (λ v. 2 ^ v) o_columns) (d.meets k (chosen sets) (some x c) (o_columns ∙ ap (λ i. size i (chosen sets)) k_is) o_shown),
         )

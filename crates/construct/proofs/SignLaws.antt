@@ -1,5 +1,5 @@
 -- The parts of a claim by its sign, from the claim that the bytes are.
-use Rattle.std.proofs.Common.{◌≡◌, ℕ, ◌+◌, ◌-◌, ◌<◌, ◌≤◌, max, Bool, true, false, ◌||◌, ⊎_elim, T, List, [], ◌∷◌, ◌++◌, length, take, sym, refl, ap, ◌∙◌, subst, inl, inr, append-nil, arith, ltb→lt, leb→le, length-append}
+use Rattle.std.proofs.Common.{◌≡◌, ℕ, ◌+◌, ◌-◌, ◌<◌, ◌≤◌, Bool, true, false, ◌||◌, ⊎_elim, T, List, [], ◌∷◌, ◌++◌, length, take, sym, refl, ap, ◌∙◌, subst, inl, inr, append-nil, arith, ltb→lt, leb→le, length-append}
 use Rattle.std.proofs.lemmas.List.{take_at}
 use Rattle.kinds.specs.Atoms.{row_of, sets_of}
 use Rattle.kinds.proofs.AtomLaws.{row_long}

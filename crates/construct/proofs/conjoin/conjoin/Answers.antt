@@ -1,8 +1,5 @@
-use Rattle.std.proofs.Common.{◌≡◌, ◌+◌, ◌*◌, ◌≤◌, true, refl, sym, ap, ◌∙◌, arith}
+use Rattle.std.proofs.Common.{◌+◌, ◌≤◌, refl, sym, ◌∙◌, arith}
 use Rattle.std.proofs.lemmas.Nat.{mul-le}
-use Rattle.claims.specs.Claims.{and1}
-use Rattle.narrowing.proofs.LooksLaws.{or_left, or_right}
-use Rattle.selection.specs.Selections.{chosen, count}
 use Rattle.construct.specs.declared.wanted.Wanted.TheVariants.{Exact}
 use Rattle.construct.proofs.ConjoinLaws.{both_columns, both_few, both_many, both_result}
 use Rattle.construct.proofs.RoomLaws.{slot_less, width_less}

@@ -1,9 +1,8 @@
-use Rattle.std.proofs.Common.{◌≡◌, ◌+◌, ◌*◌, ◌≤◌, true, false, refl, ap, ◌∙◌, sym, subst, arith}
-use Rattle.std.proofs.lemmas.Nat.{mul-le}
-use Rattle.selection.specs.Selections.{chosen, count}
+use Rattle.std.proofs.Common.{refl, ap, ◌∙◌, sym, subst, arith}
+use Rattle.selection.specs.Selections.{chosen}
 use Rattle.tables.specs.Sheets.{Shows}
 use Rattle.construct.specs.declared.wanted.Wanted.TheVariants.{Exact}
-use Rattle.construct.proofs.QuantifyLaws.{absent_result, columns, fewer, inside, out_columns, out_few, out_many, out_result, part_collapsed, part_connected, part_few, worked, o_columns}
+use Rattle.construct.proofs.QuantifyLaws.{absent_result, columns, fewer, inside, out_columns, out_many, out_result, part_collapsed, part_connected, part_few, worked, o_columns}
 use Rattle.construct.proofs.RoomLaws.{slot_less, width_less}
 use Rattle.construct.proofs.StandsLaws.{stands_start}
 use Rattle.construct.proofs.WidenLaws.{written_below}

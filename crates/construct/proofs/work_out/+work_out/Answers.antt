@@ -3,10 +3,10 @@ use Rattle.claims.proofs.SignLaws.{no_sign, sign_is}
 use Rattle.claims.specs.Claims.{and1, atom, not1, some}
 use Rattle.claims.specs.Fronts.{Front}
 use Rattle.narrowing.specs.Columns.{size}
-use Rattle.narrowing.specs.Mentioned.{mentions, widest}
+use Rattle.narrowing.specs.Mentioned.{mentions}
 use Rattle.narrowing.proofs.ColumnsLaws.{size_same}
 use Rattle.workspace.specs.Cut.{slot_words}
-use Rattle.construct.specs.Stands.{ExactOf, Result}
+use Rattle.construct.specs.Stands.{Result}
 use Rattle.construct.specs.WorkOut.{Lent}
 use Rattle.construct.specs.declared.wanted.Wanted.TheVariants.{Exact}
 use Rattle.construct.proofs.LentLaws.{lent_shorter, lent_smaller, one_free, rest_free}
@@ -92,7 +92,7 @@ returns-in_err-right-in-And-clause-worked_out t c =
     let x = c.work_out-in-And.ensures in
     let e = x.shape ∙ sym c.requires.shape in
     rw c.from_residual-in_err-right-in-And.ensures (shorter_unfit c.args.work.now.sets s s c.args.part.now c.two_parts.result.0.now c.two_parts.result.1.now h
-        (subst (λ k. Unfit k s.shape.most c.two_parts.result.1.now) x.sets (subst (λ z. Unfit c.work_out-in-And.new.work.sets z.most c.two_parts.result.1.now) e c.in_err-right-in-And.ensures.worked_out)))
+    (subst (λ k. Unfit k s.shape.most c.two_parts.result.1.now) x.sets (subst (λ z. Unfit c.work_out-in-And.new.work.sets z.most c.two_parts.result.1.now) e c.in_err-right-in-And.ensures.worked_out)))
 
 pub table-second-requires : goal.table-second-requires
 table-second-requires t c =
@@ -156,9 +156,9 @@ conjoin-requires-clause-both t c =
     let (e₂, other) = c.in_ok-right-in-And.ensures.worked_out h.other (subst (λ k. Front k h.other c.two_parts.result.1.now []) (sym x.sets) h.short) in
     let (l, m, n) = halves_widest c.args.work.now.sets c.args.work.now.shape.sets c.args.part.now c.two_parts.result.0.now c.two_parts.result.1.now c.requires.part h in
     λ c' d p q.
-        (let e = size_same c.work_out-in-And-2.new.work.sets (mentions (and1 c' d)) (mentions (and1 h.one h.other)) (λ z. ap₂ (λ a b. a || b) (sym (p.mentioned z) ∙ one.mentioned z) (sym (q.mentioned z) ∙ other.mentioned z)) in
-        let o : size c.work_out-in-And-2.new.work.sets (mentions (and1 h.one h.other)) ≤ c.work_out-in-And-2.new.work.shape.sets = rw (y.sets, x.sets, y.shape, x.shape) n in
-        omega arith)
+    (let e = size_same c.work_out-in-And-2.new.work.sets (mentions (and1 c' d)) (mentions (and1 h.one h.other)) (λ z. ap₂ (λ a b. a || b) (sym (p.mentioned z) ∙ one.mentioned z) (sym (q.mentioned z) ∙ other.mentioned z)) in
+    let o : size c.work_out-in-And-2.new.work.sets (mentions (and1 h.one h.other)) ≤ c.work_out-in-And-2.new.work.shape.sets = rw (y.sets, x.sets, y.shape, x.shape) n in
+    omega arith)
 
 pub conjoin-requires-clause-free : goal.conjoin-requires-clause-free
 conjoin-requires-clause-free t c =
