@@ -1,14 +1,14 @@
 -- Sets of classes that are reached whatever set x is do not go by x, so their table stands for the
 -- same one over the columns of the other sets.
-use Rattle.std.proofs.Common.{◌≡◌, ℕ, ◌^◌, ◌<◌, Bool, true, false, cond, eqb, ◌&&◌, ◌||◌, sym, refl, ap, ap₂, ◌∙◌, inl, inr}
+use Rattle.std.proofs.Common.{◌≡◌, ℕ, ◌^◌, ◌<◌, Bool, true, false, cond, eqb, ◌&&◌, ◌||◌, sym, refl, ap, ap₂, ◌∙◌}
 use Rattle.words.specs.Bits.{put_bit}
 use Rattle.words.specs.Words.{bit}
 use Rattle.words.proofs.BitsLaws.{bit_ext, bit_put, put_bit_below}
 use Rattle.automata.specs.Search.{Explored}
 use Rattle.automata.specs.Subsets.{any, step_set}
-use Rattle.narrowing.specs.Columns.{size, extract, deposit}
+use Rattle.narrowing.specs.Columns.{extract, deposit}
 use Rattle.narrowing.specs.Wide.{wide}
-use Rattle.narrowing.proofs.ColumnsLaws.{deposit_below, either, extract_below, with_bit}
+use Rattle.narrowing.proofs.ColumnsLaws.{deposit_below, with_bit}
 
 -- a bit that is put twice
 cond_twice : (b c d e : Bool) → cond b c (cond b d e) ≡ cond b c e
