@@ -173,10 +173,12 @@ fn refused(rt: &HostRuntime) -> anyhow::Result<()> {
         names: &["place"],
     };
     let memory = Case {
-        title: "three pairs of places among twelve sets",
-        claim: &[12, 5, 2, 0, 1, 5, 2, 2, 3, 2, 4, 5],
+        title: "six pairs of places among twelve sets",
+        claim: &[
+            12, 5, 2, 0, 1, 5, 2, 2, 3, 5, 2, 4, 5, 5, 2, 6, 7, 5, 2, 8, 9, 2, 10, 11,
+        ],
         most: 4294967295,
-        names: &["a", "b", "c", "d", "e", "f"],
+        names: &["a", "b", "c", "d", "e", "f", "g", "h", "i", "j", "k", "l"],
     };
     let unnamed = Case {
         title: "one name for two sets",

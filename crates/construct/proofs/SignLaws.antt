@@ -1,5 +1,5 @@
 -- The parts of a claim by its sign, from the claim that the bytes are.
-use Rattle.std.proofs.Common.{◌≡◌, ℕ, ◌+◌, ◌-◌, ◌<◌, ◌≤◌, T, List, [], ◌∷◌, ◌++◌, length, take, sym, refl, ap, ◌∙◌, subst, inl, inr, append-nil, arith, ltb→lt, leb→le, length-append}
+use Rattle.std.proofs.Common.{◌≡◌, ℕ, ◌+◌, ◌-◌, ◌<◌, ◌≤◌, Bool, true, false, ◌||◌, ⊎_elim, T, List, [], ◌∷◌, ◌++◌, length, take, sym, refl, ap, ◌∙◌, subst, inl, inr, append-nil, arith, ltb→lt, leb→le, length-append}
 use Rattle.std.proofs.lemmas.List.{take_at}
 use Rattle.kinds.specs.Atoms.{row_of, sets_of}
 use Rattle.kinds.proofs.AtomLaws.{row_long}
@@ -13,8 +13,33 @@ use Rattle.claims.proofs.SignLaws.{sign_is}
 use Rattle.kinds.specs.declared.atom.Atom.{Atom}
 use Rattle.claims.specs.declared.sign.Sign.{Sign}
 use Rattle.claims.specs.declared.sign.Sign.TheVariants.{Not, And, Some as Sign-some}
+use Rattle.narrowing.specs.Columns.{size}
+use Rattle.narrowing.specs.Mentioned.{mentions, widest}
+use Rattle.narrowing.proofs.ColumnsLaws.{size_same}
 use Rattle.words.specs.declared.bits.Set.{Set}
-use Rattle.construct.specs.WorkOut.{Halves, IsPart}
+use Rattle.construct.specs.WorkOut.{Halves, IsPart, One}
+
+-- a part's bytes are one claim
+pub part_one : (k v : ℕ) (s : List ℕ) → IsPart k v s → One k s
+part_one k v s p = (p.0, p.1)
+
+-- no part of it mentions more sets than are allowed, whichever claim it is said to be
+pub part_widest : (k v : ℕ) (c : C) (s : List ℕ) → IsPart k v s → Front k c s [] → widest k c ≤ v
+part_widest k v c s p f = subst (λ d. widest k d ≤ v) (same_front k k p.0 c s [] [] p.1 f).0 p.2
+
+or_swap : (a b : Bool) → (a || b) ≡ (b || a)
+or_swap true true = refl
+or_swap true false = refl
+or_swap false true = refl
+or_swap false false = refl
+
+-- of an and, in either order
+pub halves_widest : (k v : ℕ) (s longer shorter : List ℕ) → IsPart k v s → (h : Halves k s longer shorter) → (widest k h.one ≤ v) × (widest k h.other ≤ v) × (size k (mentions (and1 h.one h.other)) ≤ v)
+halves_widest k v s longer shorter p h = ⊎_elim
+    (λ f. (let w = part_widest k v (and1 h.one h.other) s p f in (omega arith, omega arith, omega arith)))
+    (λ f. (let w = part_widest k v (and1 h.other h.one) s p f in
+    let e = size_same k (mentions (and1 h.one h.other)) (mentions (and1 h.other h.one)) (λ z. or_swap (mentions h.one z) (mentions h.other z)) in
+    (omega arith, omega arith, omega arith))) h.either
 
 -- A claim without parts.
 pub leaf_front : (k : ℕ) (a : Atom) (c : C) (rest s : List ℕ) → row_of a ++ rest ≡ s → Front k c s [] → (sets_of a ≤ k) × Front k (atom a) s []
@@ -34,7 +59,7 @@ front_length : (k : ℕ) (c : C) (s t : List ℕ) → Front k c s t → length s
 front_length k c s t f = sym (ap length f.rows) ∙ length-append (row c) t
 
 -- Not: its part, and the same table with what accepts turned.
-pub not_part : (k : ℕ) (g : Sign) (s r : List ℕ) → head g ++ r ≡ s → g ≡ Not → IsPart k s → (length r < length s) × ((d : C) × Front k d r [] × Front k (not1 d) s [])
+pub not_part : (k : ℕ) (g : Sign) (s r : List ℕ) → head g ++ r ≡ s → g ≡ Not → One k s → (length r < length s) × ((d : C) × Front k d r [] × Front k (not1 d) s [])
 not_part k g s r b i p =
     let e : 4 ∷ r ≡ s = sign_is g Not r s b i in
     let h = ap length e in
@@ -42,7 +67,7 @@ not_part k g s r b i p =
     (omega arith, (d, f, front_not k d r s [] e f))
 
 -- Some: its part.
-pub some_part : (k : ℕ) (g : Sign) (x : Set) (s r : List ℕ) → head g ++ r ≡ s → g ≡ Sign-some x → IsPart k s → (x.0 < k) × (4 ≤ length s) × (length r < length s) × ((d : C) × Front k d r [] × Front k (some x.0 d) s [])
+pub some_part : (k : ℕ) (g : Sign) (x : Set) (s r : List ℕ) → head g ++ r ≡ s → g ≡ Sign-some x → One k s → (x.0 < k) × (4 ≤ length s) × (length r < length s) × ((d : C) × Front k d r [] × Front k (some x.0 d) s [])
 some_part k g x s r b i p =
     let e : 6 ∷ x.0 ∷ r ≡ s = sign_is g (Sign-some x) r s b i in
     let (d, q, l, f) = some_front k x.0 p.0 r s [] e p.1 in
@@ -58,7 +83,7 @@ front_alone k c s t f =
     let e : take (length s - length t) s ≡ row c = ap (λ z. take (length s - length t) z) (sym f.rows) ∙ take_at (row c) t (length s - length t) (omega arith) in
     record { rows = append-nil (row c) ∙ sym e; fine = f.fine }
 
-module _ (k : ℕ) (r first second : List ℕ) (p : IsPart k (5 ∷ r)) (d : C) (f : Front k d r second) (cut : first ≡ take (length r - length second) r) where
+module _ (k : ℕ) (r first second : List ℕ) (p : One k (5 ∷ r)) (d : C) (f : Front k d r second) (cut : first ≡ take (length r - length second) r) where
   rest_claim : (e : C) × Front k e second []
   rest_claim = let (d₁, d₂, m, i, g, h) = and_front k p.0 r (5 ∷ r) [] refl p.1 in (d₂, subst (λ z. Front k d₂ z []) (same_front k k d₁ d r m second g f).1 h)
 

@@ -20,12 +20,11 @@ use Rattle.selection.specs.Selections.{chosen, count}
 use Rattle.tables.specs.Cells.{accepts, entry}
 use Rattle.tables.specs.View.{moves, accepting}
 use Rattle.tables.specs.declared.cells.WordTable.{WordTable}
-use Rattle.tables.specs.declared.sheet.Shape.{Shape}
 use Rattle.tables.specs.declared.sheet.Sheet.{Sheet}
 use Rattle.construct.specs.declared.wanted.Wanted.{Wanted}
 use Rattle.construct.specs.declared.wanted.Wanted.TheVariants.{Exact, Any}
 use Rattle.construct.specs.declared.part.Part.{Part}
-use Rattle.construct.specs.Stands.{Meets, Reads, Result, Held, Stands}
+use Rattle.construct.specs.Stands.{ExactOf, Meets, Reads, Result, Stands}
 use Rattle.construct.specs.WorkOut.{WorkedOut}
 
 -- What tables as they are wanted have in common.
@@ -85,16 +84,25 @@ module _ (k : ℕ) (s : Sheet) (c : C) (p : Part) (t : Stands Exact k s c p) (r 
   pub reads_worked : Worked k s.shape.most c r.table.classes (wide k (chosen p.sets) (moves r.table)) (accepting r.table)
   reads_worked = rw (h.classes, reads_width, h.rows, h.accept, ← t.of) t.meets
 
--- A table that was written into rows of w columns, for a part that fits the shape.
-pub held_made : (wanted : Wanted) (k : ℕ) (h : Shape) (rows accept : List ℕ) (c : C) (p : Part) (n w : ℕ) → p.sets.of ≡ k → ((z : ℕ) → chosen p.sets z ≡ mentions c z) → count p.sets ≤ h.sets → n ≡ h.most → p.classes ≤ n → w ≡ 2 ^ count p.sets → Meets wanted k n c p.classes (wide k (chosen p.sets) (entry rows w)) (accepts accept) → Held wanted k h rows accept c p
-held_made wanted k h rows accept c p n w of mentioned narrow most few width m = record {
+-- A table that was written into rows of w columns stands on the sheet.
+pub stands_made : (wanted : Wanted) (k : ℕ) (u : Sheet) (c : C) (p : Part) (n w : ℕ) → p.sets.of ≡ k → ((z : ℕ) → chosen p.sets z ≡ mentions c z) → count p.sets ≤ u.shape.sets → n ≡ u.shape.most → p.classes ≤ n → w ≡ 2 ^ count p.sets → Meets wanted k n c p.classes (wide k (chosen p.sets) (entry u.rows.now w)) (accepts u.accept.now) → Stands wanted k u c p
+stands_made wanted k u c p n w of mentioned narrow most few width m = record {
   few = subst (λ n. p.classes ≤ n) most few;
   of = of;
   mentioned = mentioned;
   narrow = narrow;
-  meets = subst (λ k. Meets wanted k h.most c p.classes (wide k (chosen p.sets) (entry rows (2 ^ count p.sets))) (accepts accept)) (sym of)
-      (subst (λ n. Meets wanted k n c p.classes (wide k (chosen p.sets) (entry rows (2 ^ count p.sets))) (accepts accept)) most
-      (subst (λ w. Meets wanted k n c p.classes (wide k (chosen p.sets) (entry rows w)) (accepts accept)) width m));
+  meets = subst (λ k. Meets wanted k u.shape.most c p.classes (wide k (chosen p.sets) (entry u.rows.now (2 ^ count p.sets))) (accepts u.accept.now)) (sym of)
+      (subst (λ n. Meets wanted k n c p.classes (wide k (chosen p.sets) (entry u.rows.now (2 ^ count p.sets))) (accepts u.accept.now)) most
+      (subst (λ w. Meets wanted k n c p.classes (wide k (chosen p.sets) (entry u.rows.now w)) (accepts u.accept.now)) width m));
+}
+
+-- a part that is read is exact
+pub exact_read : (k : ℕ) (s : Sheet) (c : C) (p : Part) → Stands Exact k s c p → (r : WordTable) → Reads s p r → ExactOf k s.shape.most p.sets r c
+exact_read k s c p t r h = record {
+  of = t.of;
+  mentioned = t.mentioned;
+  columns = h.sets;
+  worked = subst (λ i. Worked i s.shape.most c r.table.classes (wide i (chosen p.sets) (moves r.table)) (accepting r.table)) (sym t.of) (reads_worked k s c p t r h);
 }
 
 -- an exact table is what is wanted, whatever that is

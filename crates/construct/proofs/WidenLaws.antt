@@ -3,7 +3,7 @@ use Rattle.std.proofs.Common.{◌≡◌, ℕ, ◌^◌, ◌<◌, true, refl, sym,
 use Rattle.words.specs.Words.{bit}
 use Rattle.automata.specs.Worked.{Worked}
 use Rattle.claims.specs.Claims.{C}
-use Rattle.narrowing.specs.Columns.{size, extract, deposit}
+use Rattle.narrowing.specs.Columns.{size, extract}
 use Rattle.narrowing.specs.Wide.{wide}
 use Rattle.narrowing.proofs.ColumnsLaws.{extract_below}
 use Rattle.narrowing.proofs.PartsLaws.{more_sets}

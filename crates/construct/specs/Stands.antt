@@ -1,5 +1,5 @@
 -- A part's table on a sheet, as it is wanted, over the columns of the sets that the part mentions.
-use Rattle.std.specs.Prelude.{◌≡◌, ℕ, ◌^◌, ◌≤◌, Bool, List, Option, MatchOption}
+use Rattle.std.specs.Prelude.{◌≡◌, ℕ, ◌^◌, ◌≤◌, Bool, Option, MatchOption}
 use Rattle.claims.specs.Claims.{C}
 use Rattle.claims.specs.Sizes.{Fits}
 use Rattle.automata.specs.Worked.{Shown, Worked}
@@ -10,7 +10,6 @@ use Rattle.selection.specs.declared.selection.Selection.{Selection}
 use Rattle.tables.specs.Cells.{entry, accepts}
 use Rattle.tables.specs.View.{moves, accepting}
 use Rattle.tables.specs.declared.cells.WordTable.{WordTable}
-use Rattle.tables.specs.declared.sheet.Shape.{Shape}
 use Rattle.tables.specs.declared.sheet.Sheet.{Sheet}
 use Rattle.construct.specs.declared.part.Part.{Part}
 use Rattle.construct.specs.declared.wanted.Wanted.{Wanted}
@@ -22,18 +21,14 @@ Meets Exact k n c m δ f = Worked k n c m δ f
 Meets Any k n c m δ f = Shown k n c m δ f
 
 -- the part is claim c about k sets, and its sets are those that the claim mentions; such a table of
--- the claim is the one for which the table stands that is in memory for tables of this shape, in
--- rows of as many columns as its own sets have
-pub record Held (wanted : Wanted) (k : ℕ) (h : Shape) (rows accept : List ℕ) (c : C) (p : Part) : Type 0 where
-  pub few : p.classes ≤ h.most
+-- the claim is the one for which the table stands that is on the sheet, in rows of as many columns
+-- as its own sets have
+pub record Stands (wanted : Wanted) (k : ℕ) (s : Sheet) (c : C) (p : Part) : Type 0 where
+  pub few : p.classes ≤ s.shape.most
   pub of : p.sets.of ≡ k
   pub mentioned : (z : ℕ) → chosen p.sets z ≡ mentions c z
-  pub narrow : count p.sets ≤ h.sets
-  pub meets : Meets wanted p.sets.of h.most c p.classes (wide p.sets.of (chosen p.sets) (entry rows (2 ^ count p.sets))) (accepts accept)
-
--- it stands on a sheet
-abbrev pub Stands : Wanted → ℕ → Sheet → C → Part → Type 0
-Stands wanted k s c p = Held wanted k s.shape s.rows.now s.accept.now c p
+  pub narrow : count p.sets ≤ s.shape.sets
+  pub meets : Meets wanted p.sets.of s.shape.most c p.classes (wide p.sets.of (chosen p.sets) (entry s.rows.now (2 ^ count p.sets))) (accepts s.accept.now)
 
 -- a table over the columns of these sets, which are those that claim c about k sets mentions, is the
 -- claim's exact one

@@ -10,8 +10,11 @@ use Rattle.construct.specs.declared.wanted.Wanted.{Wanted}
 use Rattle.construct.specs.declared.part.Part.{Part}
 use Rattle.construct.specs.Stands.{Result}
 
--- the bytes of a part: one claim about k sets, none of whose parts mentions more than v, and nothing
--- behind it
+-- bytes that are one claim about k sets, and nothing behind it
+abbrev pub One : ℕ → List ℕ → Type 0
+One k s = (c : C) × Front k c s []
+
+-- the bytes of a part: such a claim, of which no part mentions more than v sets
 abbrev pub IsPart : ℕ → ℕ → List ℕ → Type 0
 IsPart k v s = (c : C) × Front k c s [] × (widest k c ≤ v)
 

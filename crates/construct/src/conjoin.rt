@@ -80,5 +80,8 @@ pub fn conjoin(
     };
     let count = product(&mut found, &mut product_sheet)?;
     let classes = hand_on(product_sheet.table(count), wanted, scratch, pairs, sheet);
-    Some(Part { sets: both, classes })
+    Some(Part {
+        sets: both,
+        classes,
+    })
 }

@@ -1,6 +1,6 @@
 // Working a claim out, part by part, in prefix order over its bytes.
-ghost use Rattle.std.specs.Prelude.{◌≡◌, ℕ, ◌<◌, ◌≤◌, ◌∷◌, length};
-ghost use Rattle.construct.specs.WorkOut.{Halves, WorkedOut, Lent, IsPart};
+ghost use Rattle.std.specs.Prelude.{◌≡◌, ◌<◌, ◌≤◌, ◌∷◌, length};
+ghost use Rattle.construct.specs.WorkOut.{Halves, WorkedOut, Lent, One, IsPart};
 
 use crate::conjoin::conjoin;
 use crate::leaf::leaf;
@@ -16,7 +16,7 @@ use workspace::cut::{Slot, cut_slot};
 
 // The two parts of an and, by the bytes behind its sign: the longer one, and then the shorter.
 fn two_parts(rest: &[u8], k: u8) -> (&[u8], &[u8])
-    requires { (v : ℕ) × IsPart k v (5 ∷ rest.now) }
+    requires { One k (5 ∷ rest.now) }
     ensures { Halves k (5 ∷ rest.now) result.0.now result.1.now }
 {
     let Some(second) = skip(rest, k) else {

@@ -1,3 +1,4 @@
 pub mod MadeLaws
 pub mod OrderLaws
 pub mod TableLaws
+pub mod WidenLaws

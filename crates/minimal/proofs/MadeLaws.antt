@@ -1,10 +1,10 @@
 -- Bytes are one claim only, so what is known of that claim is said of every claim that they are.
-use Rattle.std.proofs.Common.{ℕ, ◌+◌, ◌*◌, ◌<◌, ◌≤◌, List, subst}
+use Rattle.std.proofs.Common.{ℕ, ◌+◌, ◌<◌, ◌≤◌, List, subst}
 use Rattle.claims.specs.Claims.{C}
 use Rattle.claims.specs.Rows.{Claim}
 use Rattle.claims.specs.Sizes.{Fits}
 use Rattle.claims.proofs.OneClaim.{one_claim}
-use Rattle.workspace.specs.Floor.{floor_words}
+use Rattle.workspace.specs.Floor.{NoRoom}
 use Rattle.minimal.specs.Minimal.{Made, Minimal, TooMany}
 use Rattle.minimal.specs.declared.automaton.Automaton.{Automaton}
 
@@ -18,5 +18,5 @@ made s most n k c y t m f h = record {
   fits = every (λ k c. (n : ℕ) × (n ≤ most) × Fits k n c) s k c y (n, h, f);
 }
 
-pub too_many : (s : List ℕ) (most n k : ℕ) (c : C) → Claim s k c → (Fits k n c → ⊥) → n ≤ most → (n < most → 1048576 < floor_words s (n + 1) + 4 * (n + 1)) → TooMany s most n
+pub too_many : (s : List ℕ) (most n k : ℕ) (c : C) → Claim s k c → (Fits k n c → ⊥) → n ≤ most → (n < most → NoRoom s (n + 1)) → TooMany s most n
 too_many s most n k c y over within memory = record { claim = (k, c, y); many = every (λ k c. Fits k n c → ⊥) s k c y over; within = within; memory = memory }

@@ -1,5 +1,5 @@
 -- The smallest automaton of a claim, or why there is none.
-use Rattle.std.specs.Prelude.{ℕ, ◌≡◌, ◌+◌, ◌*◌, ◌<◌, ◌≤◌, Bool, List}
+use Rattle.std.specs.Prelude.{ℕ, ◌≡◌, ◌+◌, ◌<◌, ◌≤◌, Bool, List}
 use Rattle.words.specs.Words.{Word}
 use Rattle.claims.specs.Claims.{C, Of}
 use Rattle.claims.specs.Sizes.{Fits}

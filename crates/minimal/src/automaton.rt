@@ -1,8 +1,12 @@
 // An automaton that reads words of columns.
 ghost use Rattle.std.specs.Prelude.{◌≡◌, ℕ, ◌*◌, ◌^◌, ◌<◌, ◌≤◌, ◌==◌, length, map, slice_index, IfOk};
+ghost use Rattle.narrowing.specs.Wide.{wide};
+ghost use Rattle.selection.specs.Selections.{chosen, count};
 ghost use Rattle.tables.specs.Cells.{entry};
 ghost use Rattle.tables.specs.View.{moves, accepting};
 
+use crate::widen::{narrow_columns, rows_by};
+use selection::selection::Selection;
 use std::alloc::{AllocError, Global};
 use tables::cells::WordTable;
 
@@ -29,18 +33,22 @@ fn ends(alloc: Global, accept: &[u32]) -> Result<Vec<bool>, AllocError>
 impl Automaton {
     ghost use Rattle.minimal.specs.View.{states, leads, accepts};
 
-    /// An automaton of its own that is as the table, which lies in lent memory.
-    pub fn of_table(alloc: Global, t: WordTable) -> Result<Automaton, AllocError>
-        ensures sets { IfOk result (λ s. s.sets ≡ t.entry.sets) }
+    /// An automaton of its own over the words of all sets that is as the table, which lies in lent
+    /// memory and is over the columns of the selection's sets: each column leads where its narrow
+    /// one does.
+    pub fn of_table(alloc: Global, t: WordTable, sets: Selection) -> Result<Automaton, AllocError>
+        requires few { t.table.classes < 2 ^ 32 }
+        requires columns { t.sets ≡ count sets }
+        ensures sets { IfOk result (λ s. s.sets ≡ sets.of) }
         ensures states { IfOk result (λ s. states s ≡ t.entry.table.classes) }
-        ensures leads { IfOk result (λ s. (q a : ℕ) → q < t.entry.table.classes → a < t.entry.table.width → leads s q a ≡ moves t.entry.table q a) }
+        ensures leads { IfOk result (λ s. (q a : ℕ) → q < t.entry.table.classes → a < 2 ^ sets.of → leads s q a ≡ wide sets.of (chosen sets) (moves t.entry.table) q a) }
         ensures accepts { IfOk result (λ s. (q : ℕ) → q < t.entry.table.classes → accepts s q ≡ accepting t.entry.table q) }
     {
-        let classes = t.table.classes;
-        let rows = Vec::from_slice(alloc, &t.table.rows[..classes * t.table.width])?;
-        let accepting = ends(alloc, &t.table.accept[..classes])?;
+        let columns = narrow_columns(alloc, sets)?;
+        let rows = rows_by(alloc, t.table, &columns)?;
+        let accepting = ends(alloc, &t.table.accept[..t.table.classes])?;
         Ok(Automaton {
-            sets: t.sets,
+            sets: sets.of,
             rows,
             accepting,
         })

@@ -4,13 +4,14 @@ ghost use Rattle.minimal.specs.Minimal.{Made, Refused};
 
 use crate::automaton::Automaton;
 use crate::refusal::Refusal;
-use claims::claim::claim_sets;
+use construct::part::table;
 use construct::wanted::Wanted;
 use construct::work::Work;
 use construct::work_out::work_out;
 use std::alloc::Global;
 use tables::sheet::{Shape, Sheet};
 use workspace::cut::{Slot, cut_slot};
+use workspace::extent::{Extent, extent_of};
 use workspace::floor::floor;
 use workspace::largest::largest;
 
@@ -21,7 +22,7 @@ use workspace::largest::largest;
 pub fn automaton_of(alloc: Global, claim: &[u8], most: u32) -> Result<Automaton, Refusal>
     ensures { MatchResult result (Made claim.now most) (Refused claim.now most) }
 {
-    let Some(k) = claim_sets(claim) else {
+    let Some(Extent { sets, widest }) = extent_of(claim) else {
         return Err(Refusal::NoClaim);
     };
     let n = largest(claim, most);
@@ -29,7 +30,7 @@ pub fn automaton_of(alloc: Global, claim: &[u8], most: u32) -> Result<Automaton,
         return Err(Refusal::TooLarge(0));
     }
     let most = n as usize;
-    let shape = Shape::new(most, u32::from(k));
+    let shape = Shape::new(most, u32::from(widest));
     let mut words = vec![in alloc; 0u32; floor(claim, n) as usize]?;
     let Slot { rows, accept, rest } = cut_slot(&mut words, shape.width, most);
     let mut sheet = Sheet {
@@ -37,10 +38,10 @@ pub fn automaton_of(alloc: Global, claim: &[u8], most: u32) -> Result<Automaton,
         accept,
         shape,
     };
-    let mut work = Work::cut(shape, rest);
-    let Some(m) = work_out(&claim[1..], Wanted::Exact, &mut sheet, &mut work) else {
+    let mut work = Work::cut(u32::from(sets), shape, rest);
+    let Some(part) = work_out(&claim[1..], Wanted::Exact, &mut sheet, &mut work) else {
         return Err(Refusal::TooLarge(n));
     };
-    let automaton = Automaton::of_table(alloc, sheet.table(m))?;
+    let automaton = Automaton::of_table(alloc, table(&sheet, part), part.sets)?;
     Ok(automaton)
 }

@@ -4,3 +4,4 @@
 pub mod automaton;
 pub mod automaton_of;
 pub mod refusal;
+pub mod widen;

@@ -1,5 +1,5 @@
 -- From the parts of the classes that are alike, and their table, to the joined table on a sheet.
-use Rattle.std.proofs.Common.{◌≡◌, ℕ, List, get_or, arith}
+use Rattle.std.proofs.Common.{ℕ, List, get_or, arith}
 use Rattle.automata.specs.Joined.{Written}
 use Rattle.tables.specs.Cells.{entry, accepts}
 use Rattle.tables.specs.View.{moves, accepting}

@@ -179,3 +179,13 @@ size_fits (suc k) s = let i = size_fits k (tail s) in elim (either (s 0)) [ inl 
 pub size_same : (k : ℕ) (s t : ℕ → Bool) → ((x : ℕ) → s x ≡ t x) → size k s ≡ size k t
 size_same zero s t e = refl
 size_same (suc k) s t e = ap₂ (λ b n. cond b (suc n) n) (e 0) (size_same k (tail s) (tail t) (λ x. e (suc x)))
+
+-- more sets are at least as many
+pub size_more : (k : ℕ) (s t : ℕ → Bool) → ((x : ℕ) → s x ≡ true → t x ≡ true) → size k s ≤ size k t
+size_more zero s t i = omega arith
+size_more (suc k) s t i =
+    let h = size_more k (tail s) (tail t) (λ x e. i (suc x) e) in
+    elim (either (s 0)) [
+      | inl e ↦ rw (e, i 0 e) (omega arith)
+      | inr e ↦ elim (either (t 0)) [ inl g ↦ rw (e, g) (omega arith) | inr g ↦ rw (e, g) h ]
+    ]

@@ -6,3 +6,4 @@ pub mod PartsLaws
 pub mod LooksLaws
 pub mod MentionedLaws
 pub mod AbsentLaws
+pub mod LeftOutLaws

@@ -1,15 +1,14 @@
 -- The order of words over narrow columns is that of their least full words, so tables are in order
 -- over both or over neither.
-use Rattle.std.proofs.Common.{◌≡◌, ℕ, ◌^◌, ◌<◌, ◌≤◌, ◌⊎◌, Bool, true, false, eqb, ◌↔◌, [], ◌∷◌, ◌++◌, length, sym, refl, ap, ap₂, ◌∙◌, subst, inl, inr, arith, length-append}
-use mathlib.Core.Bool.{false≢true}
+use Rattle.std.proofs.Common.{◌≡◌, ℕ, ◌^◌, ◌<◌, ◌≤◌, Bool, true, false, eqb, [], ◌∷◌, ◌++◌, length, sym, refl, ap, ap₂, ◌∙◌, subst, inl, inr, arith}
 use native.Mathlib.Decide.{dec_lt, ℕ_discrete}
 use Rattle.std.proofs.lemmas.Bool.Decides.{eqb_tells}
 use Rattle.words.specs.Order.{Leq, Less, at_once, later, shorter}
 use Rattle.words.specs.Runs.{run}
 use Rattle.words.specs.Words.{Word, Columns}
-use Rattle.words.proofs.OrderLaws.{leq_less, leq_snoc, leq_trans, less_irrefl, less_last, less_total, less_trans}
+use Rattle.words.proofs.OrderLaws.{leq_trans, less_last}
 use Rattle.automata.specs.Search.{Ordered, Ranked}
-use Rattle.automata.specs.Tables.{Connected, Table}
+use Rattle.automata.specs.Tables.{Connected}
 use Rattle.automata.proofs.FirstWords.{first_word}
 use Rattle.narrowing.specs.Columns.{each, size, extract, deposit}
 use Rattle.narrowing.specs.Wide.{wide}

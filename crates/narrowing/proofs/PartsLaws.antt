@@ -1,11 +1,10 @@
 -- What and, and some, make of tables over narrow columns: pairs and sets of classes go by these
 -- columns alone, and a set that is left out is one of the narrow table's own sets.
-use Rattle.std.proofs.Common.{◌≡◌, ℕ, ◌^◌, ◌<◌, Bool, true, false, eqb, ◌&&◌, ◌||◌, ◌↔◌, [], ◌∷◌, sym, refl, ap, ap₂, ◌∙◌, subst, arith}
-use native.Mathlib.Decide.{ℕ_discrete}
+use Rattle.std.proofs.Common.{◌≡◌, ℕ, ◌^◌, ◌<◌, Bool, true, false, eqb, ◌&&◌, ◌||◌, ◌↔◌, [], ◌∷◌, sym, refl, ap, ap₂, ◌∙◌, arith}
 use Rattle.words.specs.Bits.{put_bit}
 use Rattle.words.specs.Runs.{run}
 use Rattle.words.specs.Words.{Word, Columns, bit}
-use Rattle.words.proofs.BitsLaws.{agree_put, bit_put_here, bit_put_other, bit_zero}
+use Rattle.words.proofs.BitsLaws.{agree_put, bit_put_other}
 use Rattle.claims.specs.Sizes.{But}
 use Rattle.automata.specs.Product.{pair, step_pair}
 use Rattle.automata.specs.Subsets.{Completes, any, step_set}

@@ -1,13 +1,12 @@
 -- A search over narrow columns is one over full columns, where steps go by the narrow columns alone.
-use Rattle.std.proofs.Common.{◌≡◌, ℕ, ◌+◌, ◌*◌, ◌^◌, ◌<◌, ◌≤◌, ◌⊎◌, Bool, [], ◌∷◌, ◌++◌, sym, refl, ap, ◌∙◌, subst, inl, inr, arith}
+use Rattle.std.proofs.Common.{◌≡◌, ℕ, ◌^◌, ◌<◌, ◌⊎◌, Bool, [], ◌∷◌, ◌++◌, sym, refl, ap, ◌∙◌, subst, inl, inr, arith}
 use native.Mathlib.Decide.{dec_lt}
-use Rattle.words.specs.Order.{Leq}
 use Rattle.words.specs.Runs.{run}
 use Rattle.words.specs.Words.{Word, Columns}
 use Rattle.automata.specs.Search.{Before, Explored, Exploring, TooMany}
 use Rattle.narrowing.specs.Columns.{each, size, extract, deposit}
 use Rattle.narrowing.specs.Wide.{Sees, wide}
-use Rattle.narrowing.proofs.ColumnsLaws.{extract_below, deposit_below, deposit_rises, extract_deposit, least_full}
+use Rattle.narrowing.proofs.ColumnsLaws.{extract_below, deposit_below, deposit_rises, extract_deposit}
 use Rattle.narrowing.proofs.WideLaws.{connected_wide, full_word}
 use Rattle.narrowing.proofs.OrderedLaws.{column_less, each_snoc, ordered_wide, less_full, snoc_full}
 
@@ -43,17 +42,23 @@ module _ (k : ℕ) (s : ℕ → Bool) {S : Type 0} (step small : S → ℕ → S
 
   to_narrow : (p b i a : ℕ) → b < 2 ^ k → Before p b i (bound a) → Before p (ext b) i a
   to_narrow p b i a h (inl l) = inl l
-  to_narrow p b i a h (inr (e, l)) = inr (e, elim (bound_of a).1 [
-    | inl y ↦ column_less k s b a y.0 (subst (λ n. b < n) y.1 l)
-    | inr y ↦ (let g = extract_below k s b in omega (arith, y.0))
-  ])
+  to_narrow p b i a h (inr (e, l)) = inr (
+    e,
+    elim (bound_of a).1 [
+      | inl y ↦ column_less k s b a y.0 (subst (λ n. b < n) y.1 l)
+      | inr y ↦ (let g = extract_below k s b in omega (arith, y.0))
+    ],
+  )
 
   to_full : (p b i a : ℕ) → b < 2 ^ size k s → Before p b i a → Before p (dep b) i (bound a)
   to_full p b i a h (inl l) = inl l
-  to_full p b i a h (inr (e, l)) = inr (e, elim (bound_of a).1 [
-    | inl y ↦ subst (λ n. dep b < n) (sym y.1) (deposit_rises k s b a l y.0)
-    | inr y ↦ subst (λ n. dep b < n) (sym y.1) (deposit_below k s b)
-  ])
+  to_full p b i a h (inr (e, l)) = inr (
+    e,
+    elim (bound_of a).1 [
+      | inl y ↦ subst (λ n. dep b < n) (sym y.1) (deposit_rises k s b a l y.0)
+      | inr y ↦ subst (λ n. dep b < n) (sym y.1) (deposit_below k s b)
+    ],
+  )
 
   last_below : (v : ℕ) (u : Word) (b : ℕ) → Columns v (u ++ (b ∷ [])) → b < 2 ^ v
   last_below v [] b h = h.0

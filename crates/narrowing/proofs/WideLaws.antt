@@ -1,6 +1,6 @@
 -- What is known of a table over narrow columns holds of the table over full columns for which it
 -- stands, and conversely.
-use Rattle.std.proofs.Common.{◌≡◌, ℕ, suc, ◌^◌, ◌<◌, ◌≤◌, Bool, true, ◌↔◌, [], ◌∷◌, length, sym, refl, ap, ap₂, ◌∙◌, subst, arith}
+use Rattle.std.proofs.Common.{◌≡◌, ℕ, suc, ◌<◌, Bool, ◌↔◌, [], ◌∷◌, length, sym, refl, ap, ap₂, ◌∙◌, subst}
 use Rattle.words.specs.Runs.{run}
 use Rattle.words.specs.Words.{Word, Columns}
 use Rattle.automata.specs.Joined.{Joined, Written}

@@ -1,13 +1,12 @@
-use Rattle.std.proofs.Common.{◌≡◌, ◌-◌, ◌^◌, ◌≤◌, [], length, take, drop, sym, ap, ◌∙◌, subst, arith}
-use Rattle.claims.specs.Fronts.{Front}
+use Rattle.std.proofs.Common.{◌≡◌, ◌^◌, sym, ap, ◌∙◌, subst, arith}
 use Rattle.claims.specs.Sizes.{Fits}
 use Rattle.narrowing.specs.Mentioned.{widest}
 use Rattle.lengths.specs.Answer.{Answered}
 use Rattle.construct.specs.declared.wanted.Wanted.TheVariants.{Any}
 use Rattle.construct.proofs.LentLaws.{whole_room}
-use Rattle.construct.proofs.StandsLaws.{fits_none}
-use Rattle.lengths.proofs.JudgeLaws.{claim_few, claim_front, enough, judged_answer, judged_few, judged_many, judged_no_claim, lent_whole, work_enough}
-use Rattle.lengths.proofs.PartLaws.{part_fits, part_ordered, part_table}
+use Rattle.construct.proofs.StandsLaws.{fits_none, stands_fits}
+use Rattle.lengths.proofs.JudgeLaws.{claim_few, claim_front, claim_part, enough, judged_answer, judged_few, judged_many, judged_no_claim, lent_whole, work_enough}
+use Rattle.lengths.proofs.PartLaws.{part_ordered, part_table}
 use Rattle.lengths.proofs.judge.judge.Goals as goal
 
 pub returns-then-too_few : goal.returns-then-too_few
@@ -53,16 +52,11 @@ pub work_out-requires : goal.work_out-requires
 work_out-requires c =
     let (d, y, e) = c.in-Some.ensures.said in
     let k = c.in-Some.field-0.sets in
-    let s = c.args.claim.now in
-    let (l, h, b) = claim_few s k d y in
-    let same : c.cut-inner.result.sets ≡ k = cc in
+    let (l, h, b) = claim_few c.args.claim.now k d y in
+    let sets : c.cut-inner.result.sets ≡ k = cc in
     let wide : c.cut-inner.result.shape.sets ≡ widest k d = ap (λ z. z.sets) c.cut-inner.ensures.shape ∙ (cc) in
     record {
-      part = (
-        d,
-        subst (λ z. Front z d (take (length s - 1) (drop 1 s)) []) (sym same) (claim_front s k d y),
-        subst (λ z. widest z d ≤ c.cut-inner.result.shape.sets) (sym same) (omega arith),
-      );
+      part = claim_part c.args.claim.now k d y c.cut-inner.result.sets c.cut-inner.result.shape.sets sets wide;
       shape = sym c.cut-inner.ensures.shape;
       lent = lent_whole _ _ _ b (rw c.cut-inner.ensures.shape c.cut-inner.ensures.free);
     }
@@ -74,7 +68,7 @@ returns-in_default-work_out c =
     let k = c.in-Some.field-0.sets in
     let s = c.args.claim.now in
     let same : c.cut-inner.result.sets ≡ k = cc in
-    let front = subst (λ z. Front z d (take (length s - 1) (drop 1 s)) []) (sym same) (claim_front s k d y) in
+    let front = claim_front s k d y c.cut-inner.result.sets same in
     let over = c.in_default-work_out.ensures.worked_out d front in
     judged_many s c.args.most c.args.out.now _ v x (enough _ c.too_few.result i c.if-too_few.false)
     k d y (λ g. over (rw (same, c.new-shape.ensures.most) g))
@@ -85,7 +79,7 @@ table-requires c =
     let k = c.in-Some.field-0.sets in
     let s = c.args.claim.now in
     let same : c.cut-inner.result.sets ≡ k = cc in
-    let front = subst (λ z. Front z d (take (length s - 1) (drop 1 s)) []) (sym same) (claim_front s k d y) in
+    let front = claim_front s k d y c.cut-inner.result.sets same in
     (Any, _, d, (c.in-Some-work_out.ensures.worked_out d front).1)
 
 pub answer-requires : goal.answer-requires
@@ -94,7 +88,7 @@ answer-requires c =
     let k = c.in-Some.field-0.sets in
     let s = c.args.claim.now in
     let same : c.cut-inner.result.sets ≡ k = cc in
-    let front = subst (λ z. Front z d (take (length s - 1) (drop 1 s)) []) (sym same) (claim_front s k d y) in
+    let front = claim_front s k d y c.cut-inner.result.sets same in
     let (shape, t) = c.in-Some-work_out.ensures.worked_out d front in
     let u = c.work_out.new.sheet in
     let w = c.work_out.new.work in
@@ -117,11 +111,11 @@ returns c =
     let k = c.in-Some.field-0.sets in
     let s = c.args.claim.now in
     let same : c.cut-inner.result.sets ≡ k = cc in
-    let front = subst (λ z. Front z d (take (length s - 1) (drop 1 s)) []) (sym same) (claim_front s k d y) in
+    let front = claim_front s k d y c.cut-inner.result.sets same in
     let (shape, t) = c.in-Some-work_out.ensures.worked_out d front in
     let u = c.work_out.new.sheet in
     let p = c.in-Some-work_out.part in
-    let fits : Fits k c.args.most d = rw (← same, ← c.new-shape.ensures.most) (subst (λ z. Fits c.cut-inner.result.sets z.most d) shape (part_fits Any _ u d p t)) in
+    let fits : Fits k c.args.most d = rw (← same, ← c.new-shape.ensures.most) (subst (λ z. Fits c.cut-inner.result.sets z.most d) shape (stands_fits Any _ u d p t)) in
     judged_answer s c.args.most c.args.out.now _ v x (enough _ c.too_few.result i c.if-too_few.false)
     k d y c.answer.new.out fits c.answer.result
     (subst (λ k. Answered k d c.args.out.now c.answer.new.out c.answer.result) (t.of ∙ same)
