@@ -1,5 +1,5 @@
 -- The words of a place are those of a span's beginning.
-use Rattle.std.proofs.Common.{◌≡◌, ℕ, ◌⊎◌, List, [], ◌∷◌, ◌++◌, Option, Some, None, Bor, codes, IsUtf8, MatchOption, inl, inr, refl, ap, ◌∙◌}
+use Rattle.std.proofs.Common.{◌≡◌, ℕ, List, [], ◌++◌, Option, Some, None, Bor, codes, IsUtf8, MatchOption, inl, inr, refl, ap, ◌∙◌}
 use Rattle.std.specs.Fmt.{decimal}
 use Rattle.std.specs.Option.{option_map_or}
 use Rattle.trees.specs.Position.{line_of, column_of, text_of_line}

@@ -1,5 +1,5 @@
 -- Where it is said to be that a text's claim is too large.
-use Rattle.std.specs.Prelude.{◌≡◌, ℕ, ◌⊎◌, List, [], ◌∷◌, ◌++◌, Option, Some, None, codes, IsUtf8}
+use Rattle.std.specs.Prelude.{◌≡◌, ℕ, ◌⊎◌, List, [], ◌++◌, Option, Some, None, codes, IsUtf8}
 use Rattle.std.specs.Fmt.{decimal}
 use Rattle.trees.specs.Position.{line_of, column_of, text_of_line}
 use Rattle.trees.specs.declared.position.Span.{Span}

@@ -1,5 +1,5 @@
 -- What is reported of a text that is read.
-use Rattle.std.specs.Prelude.{◌≡◌, ℕ, ◌+◌, ◌*◌, ◌≤◌, List, ◌++◌, map, string_bytes, codes}
+use Rattle.std.specs.Prelude.{◌≡◌, ℕ, List, ◌++◌, map, string_bytes, codes}
 use Rattle.std.specs.Fmt.{decimal}
 use Rattle.display.specs.Hex.{hex_of}
 use Rattle.workspace.specs.Floor.{Room}

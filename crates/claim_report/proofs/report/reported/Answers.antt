@@ -1,4 +1,4 @@
-use Rattle.std.proofs.Common.{◌≡◌, IfOk, string_bytes, sym, subst}
+use Rattle.std.proofs.Common.{IfOk, string_bytes, sym, subst}
 use Rattle.std.proofs.lemmas.Result.{IfOk-weaker}
 use Rattle.claim_report.specs.Reported.{Reported, IsLines, ShowsAutomaton, Fulfils}
 use Rattle.claim_report.proofs.report.reported.Goals as goal
