@@ -13,11 +13,14 @@ use Rattle.tables.specs.declared.sheet.Sheet.{Sheet}
 use Rattle.atoms.specs.AtomTable.{Exact}
 
 module _ {sets : Selection} {s u : Sheet} {c : C} {m : ℕ} (x : Exact sets s u c m) (columns : s.shape.sets ≡ count sets) where
+  width : s.shape.width ≡ 2 ^ count sets
+  width = s.shape.wide ∙ ap (λ k. 2 ^ k) columns
+
   connected : Connected (count sets) m (entry u.rows.now s.shape.width)
-  connected = connected_narrow sets.of (chosen sets) (entry u.rows.now s.shape.width) m x.worked.table.connected
+  connected = rw width (connected_narrow sets.of (chosen sets) (entry u.rows.now (2 ^ count sets)) m x.worked.table.connected)
 
   pub exact_below : (q a : ℕ) → q < m → a < u.shape.width → entry u.rows.now u.shape.width q a < m
-  exact_below = rw x.shape (λ q a h l. connected.closed q a h (subst (λ z. a < z) (s.shape.wide ∙ ap (λ k. 2 ^ k) columns) l))
+  exact_below = rw x.shape (λ q a h l. connected.closed q a h (subst (λ z. a < z) width l))
 
   module _ (t : WordTable) (shows : Shows u m t) where
     read_sets : t.sets ≡ count sets
@@ -27,4 +30,4 @@ module _ {sets : Selection} {s u : Sheet} {c : C} {m : ℕ} (x : Exact sets s u 
     exact_connected = rw (read_sets, shows.classes, shows.width, shows.rows, x.shape) connected
 
     pub exact_collapsed : Collapsed t.sets t.table.classes (moves t.table) (accepting t.table)
-    exact_collapsed = rw (read_sets, shows.classes, shows.width, shows.rows, shows.accept, x.shape) (collapsed_narrow sets.of (chosen sets) (entry u.rows.now s.shape.width) (accepts u.accept.now) m x.worked.collapsed)
+    exact_collapsed = rw (read_sets, shows.classes, shows.width, shows.rows, shows.accept, x.shape, width) (collapsed_narrow sets.of (chosen sets) (entry u.rows.now (2 ^ count sets)) (accepts u.accept.now) m x.worked.collapsed)
