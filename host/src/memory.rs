@@ -61,9 +61,9 @@ fn zeroed(count: usize) -> Option<Vec<u32>> {
     }
 }
 
-/// From so many words on, 16 MiB, memory is taken from the system in pages of 2 MiB where it has them: the call uses much of it, and
+/// From so many words on, 2 MiB, memory is taken from the system in pages of 2 MiB where it has them: the call uses much of it, and
 /// each page that is touched first costs a fault.
-const LARGE: usize = 1 << 22;
+const LARGE: usize = 1 << 19;
 
 /// Advice only: the words are what they were. Where it is not taken, nothing is lost.
 #[cfg(target_os = "linux")]
