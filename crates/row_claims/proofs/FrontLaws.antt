@@ -1,5 +1,5 @@
 -- Row claims that bytes begin with: a row claim from its parts, and none where a part is missing or a set is not below k.
-use Rattle.std.proofs.Common.{◌≡◌, ℕ, ◌≤◌, ◌&&◌, T, ltb, leb, List, [], ◌∷◌, ◌++◌, length, get_or, sym, refl, ap, ◌∙◌, subst, append_assoc, append-nil, arith, le→leb, leb→le}
+use Rattle.std.proofs.Common.{Result, Ok, Err, IsErrAnd, MatchResult, ◌≡◌, ℕ, ◌≤◌, ◌&&◌, T, ltb, leb, List, [], ◌∷◌, ◌++◌, length, get_or, sym, refl, ap, ◌∙◌, subst, append_assoc, append-nil, arith, le→leb, leb→le}
 use Rattle.claims.proofs.FrontLaws.{pass_both, both_passed}
 use Rattle.row_claims.specs.Meaning.{RowClaim, not1, and1, some}
 use Rattle.row_claims.specs.Reading.{row_ok}
@@ -99,3 +99,8 @@ none_longer s k c r t o f n p =
 -- a row claim's first byte is its number of sets
 pub first_is : (s : List ℕ) (k : ℕ) (c : RowClaim) → SaysRow s k c → (get_or s 0 0 ≡ k) × (1 ≤ length s)
 first_is s k c f = (sym (ap (λ z. get_or z 0 0) f.bytes), omega (arith, ap length f.bytes))
+
+-- an error that is handed on says what it said
+pub carry : {A E : Type 0} (P : A → Type 0) {Q : Type 0} (n e : E) (r : Result A E) → IsErrAnd r (λ f. f ≡ e) → (e ≡ n → Q) → MatchResult r P (λ f. f ≡ n → Q)
+carry P n e (Ok a) j h = absurd j
+carry P n e (Err f) j h = λ q. h (sym j ∙ q)
