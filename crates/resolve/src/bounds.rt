@@ -9,8 +9,8 @@ use formulas::formula::{Formula, Group, Place};
 use std::alloc::{AllocError, Global};
 use trees::tree::{Quantifier, Sort};
 
-// What the name with a number stands for is the row's. Fails only for want of memory, as each function of this file.
-fn bound(heap: Global, sort: Sort, number: u32, row: u32) -> Result<Box<Formula>, AllocError>
+/// What the name with a number stands for is the row's. Fails only for want of memory, as each function of this file.
+pub fn bound(heap: Global, sort: Sort, number: u32, row: u32) -> Result<Box<Formula>, AllocError>
     ensures { IfOk result (λ f. (e : Env) → Meaning f.value e ↔ Bound sort number row e) }
 {
     let row = Box::new(heap, Group::Named(row))?;

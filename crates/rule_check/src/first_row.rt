@@ -7,11 +7,11 @@ ghost use Rattle.workspace.specs.Floor.{Room};
 ghost use Rattle.rules.specs.Property.{claim_of};
 ghost use Rattle.rule_check.specs.Told.{Found as IsFound, Told};
 
-use crate::modules::modules;
 use crate::verdict::Verdict;
 use claims::encode::{Refusal, encode};
 use first_word::first_word::{Found, first_word};
 use rules::property::claim_of;
+use rows::modules::modules;
 use rules::question::Question;
 use std::alloc::{AllocError, Global};
 use workspace::largest::largest;

@@ -17,7 +17,7 @@ columns_wider j k (c ∷ w) le h = let p : 2 ^ j ≤ 2 ^ k = pow_mono le in (ome
 pub tells : (s : List ℕ) (n : ℕ) (found : Found) → Finds s n found → (l : List Name) (a : Formula) → Claimed l a s → Tells l a n found
 tells s n (First w) f l a c =
     let found = f (sets_needed l a) (whole l a) c.claim in
-    (found.0, ((c.says w.items).0 found.1.holds, λ u columns less h. found.1.first u columns less ((c.says u).1 h)))
+    (found.0, found.1.columns, ((c.says w.items).0 found.1.holds, λ u columns less h. found.1.first u columns less ((c.says u).1 h)))
 tells s n Nothing f l a c =
     let found = f (sets_needed l a) (whole l a) c.claim in (
       found.0,

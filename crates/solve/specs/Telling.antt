@@ -20,8 +20,8 @@ HoldsOf l a w = Singles (listed l) l (sets w) × Meaning a (env_of (listed l) w)
 abbrev pub IsWithin : List Name → Formula → ℕ → Type 0
 IsWithin l a n = Fits (sets_needed l a) n (whole l a)
 
--- the first word of which the formula holds; that it holds of no choice of places and sets; that more than n classes of rows are told apart
+-- the first word of which the formula holds, of so many sets; that it holds of no choice of places and sets; that more than n classes of rows are told apart
 abbrev pub Tells : List Name → Formula → ℕ → Found → Type 0
-Tells l a n (First w) = IsWithin l a n × (HoldsOf l a w.items × ((u : Word) → Columns (sets_needed l a) u → Less u w.items → HoldsOf l a u → ⊥))
+Tells l a n (First w) = IsWithin l a n × Columns (sets_needed l a) w.items × (HoldsOf l a w.items × ((u : Word) → Columns (sets_needed l a) u → Less u w.items → HoldsOf l a u → ⊥))
 Tells l a n Nothing = IsWithin l a n × ((e : Env) → Meaning a e → ⊥)
 Tells l a n TooLarge = IsWithin l a n → ⊥

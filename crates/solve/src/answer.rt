@@ -1,17 +1,18 @@
 // The answer to a text that is read.
-ghost use Rattle.std.specs.Prelude.{IfOk};
+ghost use Rattle.std.specs.Prelude.{◌≡◌, IfOk};
 ghost use Rattle.workspace.specs.Floor.{Room};
-ghost use Rattle.solve.specs.Answers.{Answers};
+ghost use Rattle.solve.specs.Answers.{Answers, unmarked};
 
 use crate::first::first_row;
 use crate::question::{Question, question_of};
 use crate::stop::Stop;
 use first_word::first_word::Found;
+use rows::modules::modules;
 use std::alloc::Global;
 use trees::tree::Item;
 use workspace::largest::largest;
 
-/// Of which places and sets a text's claim holds, of those that meet its assumptions. A word has a column for each place, in which bit x says whether the x-th declared name has the place.
+/// Of which places and sets a text's claim holds, of those that meet its assumptions. A word has a column for each place, in which bit x says whether the x-th declared name has the place. Where the text speaks of a row, the words are rows: each has as many places as its row.
 #[derive(Debug, Drop)]
 pub enum Answer {
     /// of all of them, and there are some
@@ -40,6 +41,16 @@ pub fn allowed(question: &Question, wanted: Option<u32>) -> Result<u32, Stop>
     }
 }
 
+// A first word as it is shown: the columns of the declared places and sets alone, without the row's.
+fn shown(alloc: Global, question: &Question, word: Vec<u32>) -> Result<Vec<u32>, Stop>
+    ensures { IfOk result (λ w. w.items ≡ unmarked question.now.others word.items) }
+{
+    match question.others {
+        None => Ok(word),
+        Some(others) => Ok(modules(alloc, others as u8, &word)?),
+    }
+}
+
 /// The answer to a text, with at most so many classes told apart as are wanted, or as there is memory for. Fails where the text says nothing, where its claim takes too many bytes or sets, where more classes are wanted than there is memory for, and for memory.
 pub fn answered(alloc: Global, items: &[Item], wanted: Option<u32>) -> Result<Answer, Stop>
     ensures { IfOk result (λ a. Answers items.now a) }
@@ -49,7 +60,10 @@ pub fn answered(alloc: Global, items: &[Item], wanted: Option<u32>) -> Result<An
     let holds = first_row(alloc, &question.holds, n)?;
     let fails = first_row(alloc, &question.fails, n)?;
     match (holds, fails) {
-        (Found::First(first), Found::First(second)) => Ok(Answer::Both(first, second)),
+        (Found::First(first), Found::First(second)) => Ok(Answer::Both(
+            shown(alloc, &question, first)?,
+            shown(alloc, &question, second)?,
+        )),
         (Found::First(_), Found::Nothing) => Ok(Answer::Always),
         (Found::Nothing, Found::Nothing) => Ok(Answer::Unmet),
         (Found::Nothing, Found::First(_)) => Ok(Answer::Never),

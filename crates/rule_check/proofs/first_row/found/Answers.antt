@@ -1,6 +1,6 @@
 use Rattle.std.proofs.Common.{◌≡◌, ◌%◌, ◌^◌, map, ap, ◌∙◌, subst}
 use Rattle.first_word.specs.Finding.{Finds}
-use Rattle.rule_check.proofs.ModulesLaws.{unmarked}
+use Rattle.rows.proofs.ModulesLaws.{unmarked}
 use Rattle.rule_check.proofs.FoundLaws.{first_row}
 use Rattle.rule_check.proofs.first_row.found.Goals as goal
 

@@ -1,4 +1,5 @@
-use Rattle.std.proofs.Common.{subst, inl, inr}
+use Rattle.std.proofs.Common.{◌∙◌, ap, subst, inl, inr}
+use Rattle.solve.specs.Answers.{unmarked}
 use Rattle.solve.specs.Questions.{HoldsOf, FailsOf}
 use Rattle.solve.proofs.AnswerLaws.{FoundOf, always, both, large}
 use Rattle.solve.proofs.answer.answered.Goals as goal
@@ -10,8 +11,10 @@ returns-in-First-First c =
     let t = c.in_ok-question.question.fails.items in
     let f = subst (λ z. FoundOf z n c.in_ok-holds.holds) c.deref.ensures.value c.in_ok-holds.ensures in
     let g = subst (λ z. FoundOf z n c.in_ok-fails.fails) c.deref-2.ensures.value c.in_ok-fails.ensures in
-    both c.args.items.now s t n c.in-First-First.first c.in-First-First.second c.in_ok-question.ensures.holds c.in_ok-question.ensures.fails
+    both c.args.items.now s t n c.in-First-First.first c.in-First-First.second _ _ c.in_ok-question.ensures.holds c.in_ok-question.ensures.fails
     (subst (λ x. FoundOf s n x) c.in-First-First.is-0 f) (subst (λ x. FoundOf t n x) c.in-First-First.is-1 g)
+    (c.in_ok-shown-in-First-First.ensures ∙ ap (λ o. unmarked o c.in-First-First.first.items) c.in_ok-question.ensures.others)
+    (c.in_ok-shown-in-First-First-2.ensures ∙ ap (λ o. unmarked o c.in-First-First.second.items) c.in_ok-question.ensures.others)
 
 pub returns-in-First-Nothing : goal.returns-in-First-Nothing
 returns-in-First-Nothing c =
