@@ -1,11 +1,11 @@
 -- The words of the text of words are these words.
-use Rattle.std.proofs.Common.{◌≡◌, ◌≢◌, ◌<◌, ◌≤◌, ℕ, zero, suc, ◌+◌, ◌==◌, Bool, true, false, not, ◌||◌, ◌&&◌, if◌then◌else◌, List, [], ◌∷◌, ◌++◌, length, take, drop, Option, Some, None, nat_eq, refl, sym, ap, ◌∙◌, subst, arith, ◌⊎◌, inl, inr, append-nil, length-append}
+use Rattle.std.proofs.Common.{◌≡◌, ◌≢◌, ◌<◌, ◌≤◌, ℕ, zero, suc, ◌==◌, Bool, true, false, not, ◌||◌, ◌&&◌, List, [], ◌∷◌, ◌++◌, length, take, drop, Some, None, nat_eq, refl, sym, ap, ◌∙◌, arith, ◌⊎◌, inl, inr, append-nil, length-append}
 use Rattle.tokens.specs.declared.kind.Kind.{Kind}
 use Rattle.tokens.specs.declared.kind.Kind.TheVariants as kind
-use Rattle.tokens.specs.Gaps.{goes_on, in_comment, gap_len}
+use Rattle.tokens.specs.Gaps.{goes_on}
 use Rattle.tokens.specs.Words.{Word, word}
 use Rattle.tokens.specs.Scan.{sign_at, front, behind_gap, with_first, first_then, scan_from, scan}
-use Rattle.tokens.specs.Spaced.{clings, is_apart, is_bar, is_inside, is_beside, blank_if, gap_before, line_end, spaced_behind, spaced, IsAlone, AreAlone}
+use Rattle.tokens.specs.Spaced.{clings, is_apart, is_bar, is_inside, is_beside, blank_if, line_end, spaced_behind, spaced, IsAlone, AreAlone}
 use Rattle.tokens.proofs.ScanLaws.{Ends, none_some, front_ends, front_no_gap, is_of}
 
 clinging : (b : ℕ) → (b ≡ 41) ⊎ ((b ≡ 125) ⊎ ((b ≡ 44) ⊎ ((b ≡ 58) ⊎ (b ≡ 59)))) → Ends b

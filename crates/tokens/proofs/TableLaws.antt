@@ -1,13 +1,13 @@
 -- What the tables of keywords and signs have is spelled so.
-use Rattle.std.proofs.Common.{◌≡◌, ◌<◌, ◌≤◌, ℕ, suc, Bool, true, false, if◌then◌else◌, IsTrue, List, [], ◌∷◌, length, take, Option, Some, None, IfSome, MatchOption, nat_eq, refl, sym, subst, ap, ◌∙◌, arith, inl, inr}
+use Rattle.std.proofs.Common.{◌≡◌, ◌<◌, ◌≤◌, ℕ, Bool, true, false, if◌then◌else◌, List, [], ◌∷◌, length, take, Option, Some, None, IfSome, nat_eq, refl, sym, subst, ap, ◌∙◌, arith, inl, inr}
 use Rattle.std.specs.Prelude.{unwrap_or}
 use Rattle.std.specs.List.{starts_with}
 use Rattle.std.specs.Str.{bytes_eq}
 use Rattle.std.specs.Cmp.Lexicographic.{same_text}
 use Rattle.tokens.specs.declared.kind.Kind.{Kind}
 use Rattle.tokens.specs.declared.kind.Kind.TheVariants as kind
-use Rattle.tokens.specs.Spelling.{Spells, is_name}
-use Rattle.tokens.specs.Scan.{keywords, signs, kind_in, sign_in, is_foreign, word_kind, sign_at}
+use Rattle.tokens.specs.Spelling.{Spells}
+use Rattle.tokens.specs.Scan.{keywords, signs, kind_in, sign_in, is_foreign, word_kind}
 
 abbrev pub AllSpell : List (List ℕ × Kind) → Type 0
 AllSpell [] = Unit {0}

@@ -1,4 +1,4 @@
-use Rattle.std.proofs.Common.{rules, arith}
+use Rattle.std.proofs.Common.{rules}
 use Rattle.tokens.specs.Scan.{is_foreign}
 use Rattle.tokens.proofs.foreign.foreign_reason.Goals as goal
 

@@ -1,4 +1,3 @@
-use Rattle.std.proofs.Common.{rules, arith}
 use Rattle.tokens.specs.Scan.{sign_at}
 use Rattle.tokens.proofs.TableLaws.{sign_spells, spells_part, some_part}
 use Rattle.tokens.proofs.sign.sign.Goals as goal

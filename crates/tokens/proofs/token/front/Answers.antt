@@ -1,4 +1,4 @@
-use Rattle.std.proofs.Common.{◌≡◌, sym, ◌∙◌}
+use Rattle.std.proofs.Common.{sym, ◌∙◌}
 use Rattle.tokens.proofs.SpellingLaws.{number_counted, name_counted}
 use Rattle.tokens.proofs.token.front.Goals as goal
 

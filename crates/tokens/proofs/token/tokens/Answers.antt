@@ -1,4 +1,4 @@
-use Rattle.std.proofs.Common.{◌≡◌, ◌+◌, List, Some, None, refl, inr, arith, rules, is_ok, ap, sym, subst, ◌∙◌, length, drop}
+use Rattle.std.proofs.Common.{◌+◌, List, Some, None, refl, inr, arith, rules, is_ok, ap, sym, subst}
 use Rattle.std.proofs.ResultArms.{chosen}
 use Rattle.tokens.specs.declared.token.Token.{Token}
 use Rattle.tokens.specs.Covering.{Covers}

@@ -1,5 +1,3 @@
-use Rattle.std.proofs.Common.{◌≡◌, Some, sym, rules}
-use Rattle.tokens.specs.Scan.{word_kind}
 use Rattle.tokens.proofs.TableLaws.{keyword_spells, keyword_is, other_is, name_is}
 use Rattle.tokens.proofs.word.word_kind.Goals as goal
 
