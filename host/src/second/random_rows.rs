@@ -1,0 +1,33 @@
+//! Row claims made at random, the same ones for the same seed.
+
+use super::random::Random;
+use super::row_part::{RowPart, and, last, not, some};
+
+impl Random {
+    /// A row claim about `sets` sets, with about `signs` signs, and `some` at most `depth` deep. One in four of the signs without
+    /// parts is `last`, and about one in four counts.
+    pub fn row_claim(&mut self, sets: u8, signs: usize, depth: usize) -> RowPart {
+        if signs < 2 {
+            return if self.one_in(4) { last(self.set(sets)) } else { self.counting_sign(sets).into() };
+        }
+        match self.below(if depth > 0 { 12 } else { 7 }) {
+            0..=2 => not(self.row_claim(sets, signs - 1, depth)),
+            3..=6 => {
+                let first = 1 + self.below(signs - 1);
+                let c = self.row_claim(sets, first, depth);
+                and(c, self.row_claim(sets, signs - first, depth))
+            }
+            _ => {
+                let x = self.set(sets);
+                some(x, self.row_claim(sets, signs - 1, depth - 1))
+            }
+        }
+    }
+
+    /// A row claim of these sets as one about up to eleven, of which it mentions as many as before, any of them in any order: how
+    /// many there are, and which ones.
+    pub fn row_numbers(&mut self, sets: u8) -> (u8, Vec<u8>) {
+        let of = sets + self.below(usize::from(12 - sets)) as u8;
+        (of, self.numbers(of, sets))
+    }
+}
