@@ -24,10 +24,13 @@ impl Random {
         }
     }
 
-    /// A row claim of these sets as one about up to eleven, of which it mentions as many as before, any of them in any order: how
-    /// many there are, and which ones.
+    /// As which sets `sets` sets are taken where there are up to eleven: how many there are, and the numbers, rising, so that first
+    /// rows stay the first.
     pub fn row_numbers(&mut self, sets: u8) -> (u8, Vec<u8>) {
         let of = sets + self.below(usize::from(12 - sets)) as u8;
-        (of, self.numbers(of, sets))
+        let mut numbers = self.numbers(of, sets);
+        numbers.truncate(sets.into());
+        numbers.sort_unstable();
+        (of, numbers)
     }
 }

@@ -252,8 +252,17 @@ mod tests {
         // no place is behind it
         assert_eq!(firsts(and(last(0), some(1, before(0, 1).into())), 2).0, None);
         // every second place has set 0, and the last one: an odd number of places
-        let second = not(some(1, and(single(1).into(), and(within(1, 0).into(), some(2, and(next(1, 2).into(), within(2, 0).into()))))));
-        let other = not(some(1, and(single(1).into(), and(not(within(1, 0).into()), not(some(2, and(next(1, 2).into(), within(2, 0).into())))))));
+        let second = not(some(
+            1,
+            and(single(1).into(), and(within(1, 0).into(), some(2, and(next(1, 2).into(), within(2, 0).into())))),
+        ));
+        let other = not(some(
+            1,
+            and(
+                single(1).into(),
+                and(not(within(1, 0).into()), not(some(2, and(next(1, 2).into(), within(2, 0).into())))),
+            ),
+        ));
         let at_end = some(1, and(last(1), within(1, 0).into()));
         assert_eq!(firsts(and(and(second, other), at_end), 3).0, Some(vec![]));
     }
