@@ -5,14 +5,21 @@ use Rattle.row_claims.specs.Meaning.{RowClaim, atom, last, not1, and1, some}
 use Rattle.row_claims.specs.Reading.{in_row}
 use Rattle.row_claims.specs.Bytes.{row_bytes}
 use Rattle.row_claims.specs.Signs.{head}
-use Rattle.row_claims.specs.declared.sign.Sign.{Sign}
-use Rattle.row_claims.specs.declared.sign.Sign.TheVariants as sign
+use Rattle.row_claims.specs.declared.sign.RowSign.{RowSign}
+use Rattle.row_claims.specs.declared.sign.RowSign.TheVariants as sign
 use Rattle.row_claims.proofs.OneRowClaim.{parts, one_front}
 use Rattle.row_judge.specs.Put.{Overlong, Puts}
 
--- bytes that begin with no row claim
-pub none_there : (r n : ℕ) (s : List ℕ) → ((c : RowClaim) (t : List ℕ) → row_bytes c ++ t ≡ s → ⊥) → Overlong r n s
-none_there r n s h c t f = absurd (h c t f)
+-- bytes that begin with no sign begin with no row claim
+no_claim : (s : List ℕ) → ((g : RowSign) (t : List ℕ) → head g ++ t ≡ s → ⊥) → (c : RowClaim) (t : List ℕ) → row_bytes c ++ t ≡ s → ⊥
+no_claim s n (atom a) t f = n (sign.Atom a) t f
+no_claim s n (last x) t f = n (sign.Last x) t f
+no_claim s n (not1 c) t f = n sign.Not (row_bytes c ++ t) f
+no_claim s n (and1 c d) t f = n sign.And ((row_bytes c ++ row_bytes d) ++ t) f
+no_claim s n (some x c) t f = n (sign.Some x) (row_bytes c ++ t) f
+
+pub no_sign : (r n : ℕ) (s : List ℕ) → ((g : RowSign) (t : List ℕ) → head g ++ t ≡ s → ⊥) → Overlong r n s
+no_sign r n s h c t f = absurd (no_claim s h c t f)
 
 -- bytes that begin with a row claim for which there is no room begin with no other
 pub no_room : (r n : ℕ) (c : RowClaim) (s t : List ℕ) → row_bytes c ++ t ≡ s → 1024 < n + length (row (in_row r c)) → Overlong r n s
