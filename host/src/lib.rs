@@ -39,11 +39,14 @@ pub mod line;
 mod memory;
 pub mod part;
 pub mod progress;
+mod row_claim;
+pub mod row_part;
 pub mod second;
 pub mod start;
 
-pub use answer::Answer;
-pub use call::{Verdict, call};
+pub use answer::{Answer, RowAnswer};
+pub use call::{RowVerdict, Verdict, call, call_row};
 pub use claim::Claim;
 pub use judge::{Judge, Refused, WORK_LIMIT, judge};
-pub use memory::floor;
+pub use memory::{floor, row_floor};
+pub use row_claim::RowClaim;

@@ -1,0 +1,11 @@
+// Row claims judged: whether they hold of every row, of none, or of which first, in lent memory.
+#![tactic(auto)]
+
+pub mod claim_bytes;
+pub mod first_word;
+pub mod floor;
+pub mod judge_row;
+pub mod made;
+pub mod modules;
+pub mod put;
+pub mod row_judged;
