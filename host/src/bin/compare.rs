@@ -12,7 +12,7 @@ use ceivuron::second::reach::depth;
 use ceivuron::second::row_compared;
 use ceivuron::second::row_tally::RowTally;
 use ceivuron::second::tally::Tally;
-use ceivuron::{Answer, Claim, Judge};
+use ceivuron::{Answer, Claim, Judge, RowClaim};
 
 /// Claims that were worked out by hand, and claims that older tools had wrong, with their answers: `n hexbytes => answer`.
 const WORKED: &str = include_str!("../../tests/worked.txt");
@@ -58,9 +58,8 @@ fn main() -> ExitCode {
     let mut random = Random::new(seed);
     while tally.claims < row_count {
         let (sets, claim) = row_compared::draw(&mut random, &tally, row_count);
-        let bytes = claim.bytes(sets);
-        let result = row_compared::compare(&mut comparison.judge, &mut random, (sets, claim), &mut tally);
-        differences += report(&bytes, result);
+        let result = row_compared::compare(&mut comparison.judge, &mut random, sets, &claim, &mut tally);
+        differences += report(RowClaim::new(sets, &claim).bytes(), result);
     }
     println!("row claims made at random, from seed {seed}:");
     println!("{tally}");

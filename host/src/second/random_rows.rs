@@ -1,14 +1,14 @@
 //! Row claims made at random, the same ones for the same seed.
 
 use super::random::Random;
-use super::row_part::{RowPart, and, last, not, some};
+use crate::row_part::{RowPart, and, last, not, some};
 
 impl Random {
     /// A row claim about `sets` sets, with about `signs` signs, and `some` at most `depth` deep. One in four of the signs without
     /// parts is `last`, and about one in four counts.
     pub fn row_claim(&mut self, sets: u8, signs: usize, depth: usize) -> RowPart {
         if signs < 2 {
-            return if self.one_in(4) { last(self.set(sets)) } else { self.counting_sign(sets).into() };
+            return if self.one_in(4) { last(self.set(sets)) } else { RowPart::from(&self.counting_sign(sets)) };
         }
         match self.below(if depth > 0 { 12 } else { 7 }) {
             0..=2 => not(self.row_claim(sets, signs - 1, depth)),

@@ -7,8 +7,7 @@
 use std::collections::{BTreeSet, HashMap};
 use std::hash::Hash;
 
-use super::row_part::RowPart;
-use crate::part::Part;
+use crate::row_part::RowPart;
 
 /// States are numbered in the order of the first rows that lead to them; the first one is the start.
 #[derive(Clone, Debug)]
@@ -51,7 +50,6 @@ impl Automaton {
     pub fn of(claim: &RowPart, sets: u8) -> Option<Automaton> {
         let columns = 1 << sets;
         match claim {
-            RowPart::Atom(atom) => Automaton::of_atom(atom, columns),
             RowPart::Last(x) => Automaton::of_last(*x, columns),
             RowPart::Not(c) => {
                 let Automaton { steps, accepts } = Automaton::of(c, sets)?;
@@ -72,30 +70,31 @@ impl Automaton {
                     states.iter().any(|state| c.accepts[*state])
                 })
             }
+            _ => Automaton::of_sign(claim, columns),
         }
         .map(Automaton::smallest)
     }
 
-    /// What is left of these signs is what was seen of their sets; once it can hold no more, nothing is.
-    fn of_atom(atom: &Part, columns: usize) -> Option<Automaton> {
-        match *atom {
-            Part::Within(x, y) => {
+    /// Of the other signs without parts a state is what was seen of their sets, `None` or `false` once it can hold no more.
+    fn of_sign(sign: &RowPart, columns: usize) -> Option<Automaton> {
+        match *sign {
+            RowPart::Within(x, y) => {
                 let step = |within: &bool, column| *within && (has(column, y) || !has(column, x));
                 Automaton::explore(true, columns, step, |within| *within)
             }
-            Part::Single(x) => {
+            RowPart::Single(x) => {
                 let step = |seen: &Option<Seen>, column| seen.and_then(|seen| seen.step(has(column, x)));
                 Automaton::explore(Some(Seen::Nowhere), columns, step, |seen| {
                     matches!(seen, Some(Seen::Here | Seen::Earlier))
                 })
             }
-            Part::Next(x, y) => Automaton::of_two(x, y, columns, |x_seen| x_seen == Seen::Here),
-            Part::Before(x, y) => Automaton::of_two(x, y, columns, |x_seen| x_seen != Seen::Nowhere),
-            Part::Multiple(modulus, rest, x) => {
+            RowPart::Next(x, y) => Automaton::of_two(x, y, columns, |x_seen| x_seen == Seen::Here),
+            RowPart::Before(x, y) => Automaton::of_two(x, y, columns, |x_seen| x_seen != Seen::Nowhere),
+            RowPart::Multiple(modulus, rest, x) => {
                 let step = |count: &u8, column| (count + u8::from(has(column, x))) % modulus;
                 Automaton::explore(0, columns, step, |count| *count == rest)
             }
-            Part::Not(_) | Part::And(..) | Part::Some(..) => unreachable!("not a claim without parts"),
+            _ => unreachable!("a sign with parts, or last"),
         }
     }
 
@@ -224,8 +223,7 @@ impl Automaton {
 #[cfg(test)]
 mod tests {
     use super::*;
-    use crate::part::{before, multiple, next, single, within};
-    use crate::second::row_part::{and, last, not, some};
+    use crate::row_part::{and, before, last, multiple, next, not, single, some, within};
 
     fn firsts(claim: RowPart, sets: u8) -> (Option<Vec<u32>>, Option<Vec<u32>>, usize) {
         let automaton = Automaton::of(&claim, sets).unwrap();
@@ -234,45 +232,36 @@ mod tests {
 
     #[test]
     fn claims_without_parts() {
-        assert_eq!(firsts(within(0, 1).into(), 2), (Some(vec![]), Some(vec![1]), 2));
-        assert_eq!(firsts(single(0).into(), 1), (Some(vec![1]), Some(vec![]), 3));
-        assert_eq!(firsts(next(0, 1).into(), 2), (Some(vec![1, 2]), Some(vec![]), 4));
-        assert_eq!(firsts(before(1, 0).into(), 2), (Some(vec![2, 1]), Some(vec![]), 4));
-        assert_eq!(firsts(next(0, 0).into(), 1), (None, Some(vec![]), 1));
-        assert_eq!(firsts(multiple(3, 2, 0).into(), 1), (Some(vec![1, 1]), Some(vec![]), 3));
+        assert_eq!(firsts(within(0, 1), 2), (Some(vec![]), Some(vec![1]), 2));
+        assert_eq!(firsts(single(0), 1), (Some(vec![1]), Some(vec![]), 3));
+        assert_eq!(firsts(next(0, 1), 2), (Some(vec![1, 2]), Some(vec![]), 4));
+        assert_eq!(firsts(before(1, 0), 2), (Some(vec![2, 1]), Some(vec![]), 4));
+        assert_eq!(firsts(next(0, 0), 1), (None, Some(vec![]), 1));
+        assert_eq!(firsts(multiple(3, 2, 0), 1), (Some(vec![1, 1]), Some(vec![]), 3));
     }
 
     #[test]
     fn the_last_place() {
         // of the empty row no set has it
         assert_eq!(firsts(last(0), 1), (Some(vec![]), Some(vec![0]), 4));
-        assert_eq!(firsts(and(last(0), single(0).into()), 1), (Some(vec![1]), Some(vec![]), 3));
+        assert_eq!(firsts(and(last(0), single(0)), 1), (Some(vec![1]), Some(vec![]), 3));
         // each row has a last place, if it has one at all
         assert_eq!(firsts(some(0, last(0)), 1), (Some(vec![]), None, 1));
         // no place is behind it
-        assert_eq!(firsts(and(last(0), some(1, before(0, 1).into())), 2).0, None);
+        assert_eq!(firsts(and(last(0), some(1, before(0, 1))), 2).0, None);
         // every second place has set 0, and the last one: an odd number of places
-        let second = not(some(
-            1,
-            and(single(1).into(), and(within(1, 0).into(), some(2, and(next(1, 2).into(), within(2, 0).into())))),
-        ));
-        let other = not(some(
-            1,
-            and(
-                single(1).into(),
-                and(not(within(1, 0).into()), not(some(2, and(next(1, 2).into(), within(2, 0).into())))),
-            ),
-        ));
-        let at_end = some(1, and(last(1), within(1, 0).into()));
+        let second = not(some(1, and(single(1), and(within(1, 0), some(2, and(next(1, 2), within(2, 0)))))));
+        let other = not(some(1, and(single(1), and(not(within(1, 0)), not(some(2, and(next(1, 2), within(2, 0))))))));
+        let at_end = some(1, and(last(1), within(1, 0)));
         assert_eq!(firsts(and(and(second, other), at_end), 3).0, Some(vec![]));
     }
 
     #[test]
     fn no_set_reaches_beyond_the_end() {
         // some place is behind set 0's one place: not of a row that ends there
-        assert_eq!(firsts(some(1, next(0, 1).into()), 2).0, Some(vec![1, 0]));
+        assert_eq!(firsts(some(1, next(0, 1)), 2).0, Some(vec![1, 0]));
         // there is no largest set, said of rows: some set has every set within it
-        let largest = some(1, not(some(0, not(within(0, 1).into()))));
+        let largest = some(1, not(some(0, not(within(0, 1)))));
         assert_eq!(firsts(largest, 2), (Some(vec![]), None, 1));
     }
 }

@@ -3,12 +3,13 @@
 use super::compared::Difference;
 use super::random::Random;
 use super::row_automata::Automaton;
+use super::row_form::{depth, renamed};
 use super::row_holds::{places_within, rows};
-use super::row_limits::{LIMIT, bytes_read};
-use super::row_part::{RowPart, not};
 use super::row_tally::RowTally;
+use crate::answer::RowAnswer;
 use crate::judge::Judge;
-use crate::row::RowAnswer;
+use crate::row_claim::RowClaim;
+use crate::row_part::RowPart;
 
 /// The most classes that are allowed here.
 const MOST: u32 = 4096;
@@ -25,7 +26,7 @@ pub fn draw(random: &mut Random, tally: &RowTally, count: usize) -> (u8, RowPart
         let signs = 2 + random.below(16);
         let nested = [0, 1, 1, 2, 2, 3, 3, 4][random.below(8)];
         let claim = random.row_claim(sets, signs, nested);
-        if claim.depth() == 0 && !random.one_in(4) {
+        if depth(&claim) == 0 && !random.one_in(4) {
             continue;
         }
         let Some(automaton) = Automaton::of(&claim, sets) else { return (sets, claim) };
@@ -44,20 +45,21 @@ pub fn draw(random: &mut Random, tally: &RowTally, count: usize) -> (u8, RowPart
 pub fn compare(
     judge: &mut Judge,
     random: &mut Random,
-    (sets, claim): (u8, RowPart),
+    sets: u8,
+    claim: &RowPart,
     tally: &mut RowTally,
 ) -> Result<(), Difference> {
     tally.claims += 1;
-    tally.note_form(&claim);
+    tally.note_form(claim);
     let (of, numbers) = random.row_numbers(sets);
-    let wide = claim.renamed(&numbers);
-    let said = judge.judge_row(&wide.bytes(of), MOST).map_err(|refused| refused.to_string())?;
-    let automaton = Automaton::of(&claim, sets);
+    let wide = RowClaim::new(of, &renamed(claim, &numbers));
+    let said = judge.judge_row(&wide, MOST).map_err(|refused| refused.to_string())?;
+    let automaton = Automaton::of(claim, sets);
     let (Some(automaton), true) = (automaton, said != RowAnswer::Many) else {
         tally.many += 1;
         return Ok(());
     };
-    compare_rows(&claim, &automaton, tally)?;
+    compare_rows(claim, &automaton, tally)?;
     let first = |wanted| automaton.first(wanted).map(|row| widened(&row, &numbers));
     let expected = match (first(true), first(false)) {
         (Some(holds), Some(fails)) => {
@@ -76,9 +78,6 @@ pub fn compare(
     };
     if said != expected {
         return Err(format!("of {of} sets {said:?} judged, {expected:?} by definition"));
-    }
-    if tally.claims.is_multiple_of(10) {
-        compare_limits(judge, of, &wide, &said, tally)?;
     }
     Ok(())
 }
@@ -100,38 +99,5 @@ fn compare_rows(claim: &RowPart, automaton: &Automaton, tally: &mut RowTally) ->
             return Err(format!("{row:?} accepted: {}, by definition: {holds}", !holds));
         }
     }
-    Ok(())
-}
-
-/// The claim with so many `not` in front that it is just short enough says the same or the opposite; with one more it is too long; and
-/// of twelve sets there is one too many.
-fn compare_limits(
-    judge: &mut Judge,
-    sets: u8,
-    claim: &RowPart,
-    said: &RowAnswer,
-    tally: &mut RowTally,
-) -> Result<(), Difference> {
-    let mut ask =
-        |sets, claim: &RowPart| judge.judge_row(&claim.bytes(sets), MOST).map_err(|refused| refused.to_string());
-    let Some(free) = LIMIT.checked_sub(bytes_read(claim, sets)) else { return Ok(()) };
-    let mut long = claim.clone();
-    for _ in 0..free / 2 * 2 {
-        long = not(long);
-    }
-    let same = ask(sets, &long)?;
-    if free % 2 == 1 {
-        long = not(long);
-    }
-    let longest = ask(sets, &long)?;
-    let too_long = ask(sets, &not(long))?;
-    let one_too_many = ask(12, claim)?;
-    if same != *said || longest == RowAnswer::TooLong || too_long != RowAnswer::TooLong {
-        return Err(format!("{said:?}, with {free} bytes more {same:?}, {longest:?}, with one more {too_long:?}"));
-    }
-    if one_too_many != RowAnswer::TooManySets {
-        return Err(format!("of 12 sets: {one_too_many:?}"));
-    }
-    tally.limits += 1;
     Ok(())
 }

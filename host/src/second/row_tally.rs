@@ -2,7 +2,8 @@
 
 use std::fmt;
 
-use super::row_part::RowPart;
+use super::row_form::{depth, says_last};
+use crate::row_part::RowPart;
 
 /// What was compared, over all row claims.
 #[derive(Clone, Debug, Default)]
@@ -22,24 +23,22 @@ pub struct RowTally {
     pub rows: usize,
     /// The most places of a first row.
     pub longest: usize,
-    /// Claims that were made just short enough, and too long with one sign more.
-    pub limits: usize,
 }
 
 impl RowTally {
     pub fn note_form(&mut self, claim: &RowPart) {
-        self.with_last += usize::from(claim.says_last());
-        self.depths[claim.depth().min(3)] += 1;
+        self.with_last += usize::from(says_last(claim));
+        self.depths[depth(claim).min(3) as usize] += 1;
     }
 }
 
 impl fmt::Display for RowTally {
     fn fmt(&self, f: &mut fmt::Formatter<'_>) -> fmt::Result {
-        let RowTally { claims, always, never, both, many, with_last, rows, longest, limits, .. } = self;
+        let RowTally { claims, always, never, both, many, with_last, rows, longest, .. } = self;
         writeln!(f, "  {claims} row claims: {always} always, {never} never, {both} both, {many} too many classes")?;
         let [none, once, twice, more] = self.depths;
         writeln!(f, "  with last {with_last}; some nested 0 deep {none}, 1 {once}, 2 {twice}, 3 and more {more}")?;
         writeln!(f, "  all rows of up to 0, 1, ... 6 places looked at: {:?} claims; {rows} rows", self.places)?;
-        write!(f, "  first rows of up to {longest} places compared; {limits} claims at the limit of their bytes")
+        write!(f, "  first rows of up to {longest} places compared")
     }
 }
