@@ -12,7 +12,7 @@ use crate::row_claim::RowClaim;
 use crate::row_part::RowPart;
 
 /// The most classes that are allowed here.
-const MOST: u32 = 4096;
+const MOST: u32 = 1024;
 
 /// Rows of up to so many places are looked at by definition, in no more than so many steps.
 const PLACES: u32 = 6;
