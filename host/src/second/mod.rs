@@ -19,6 +19,7 @@ pub mod row_compared;
 pub mod row_form;
 pub mod row_holds;
 pub mod row_tally;
+pub mod row_widths;
 pub mod table;
 pub mod tally;
 pub mod widths;

@@ -77,7 +77,7 @@ pub fn compare(
         }
     };
     if said != expected {
-        return Err(format!("of {of} sets {said:?} judged, {expected:?} by definition"));
+        return Err(format!("of {:02x?} {said:?} judged, {expected:?} by definition", wide.bytes()));
     }
     Ok(())
 }
