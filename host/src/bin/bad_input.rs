@@ -112,7 +112,7 @@ fn claim(random: &mut Random) -> Vec<u8> {
 fn row_claim(random: &mut Random) -> Vec<u8> {
     let sets = 1 + random.below(3) as u8;
     let (signs, depth) = (1 + random.below(6), random.below(3));
-    let part = random.row_claim(sets, signs, depth);
+    let part = random.counting_row_claim(sets, signs, depth);
     let sets = if random.one_in(10) { 12 - random.below(10) as u8 } else { sets };
     RowClaim::new(sets, &part).bytes().to_vec()
 }

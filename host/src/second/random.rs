@@ -83,7 +83,7 @@ impl Random {
         self.below(usize::from(sets)) as u8
     }
 
-    fn sign(&mut self, sets: u8) -> Part {
+    pub(super) fn sign(&mut self, sets: u8) -> Part {
         let (x, y) = (self.set(sets), self.set(sets));
         match self.below(4) {
             0 => within(x, y),

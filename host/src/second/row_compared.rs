@@ -25,7 +25,7 @@ pub fn draw(random: &mut Random, tally: &RowTally, count: usize) -> (u8, RowPart
         let sets = 1 + random.below(4) as u8;
         let signs = 2 + random.below(16);
         let nested = [0, 1, 1, 2, 2, 3, 3, 4][random.below(8)];
-        let claim = random.row_claim(sets, signs, nested);
+        let claim = random.counting_row_claim(sets, signs, nested);
         if depth(&claim) == 0 && !random.one_in(4) {
             continue;
         }
