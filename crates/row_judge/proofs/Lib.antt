@@ -2,5 +2,6 @@
 pub mod PutLaws
 pub mod CallLaws
 pub mod RowLaws
+pub mod FindingLaws
 pub mod ModulesLaws
 pub mod JudgedLaws

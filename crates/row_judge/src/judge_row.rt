@@ -41,6 +41,7 @@ pub fn judge_row(claim: &[u8], most: u32, out: &mut [u32], work: &mut [u32]) -> 
     if out.len() < a + b {
         return RowJudged::OutFull(a, b);
     }
+    let words = &words[..];
     write_rows(sets, &words[..a], &words[n..n + b], out);
     RowJudged::Both(a, b)
 }

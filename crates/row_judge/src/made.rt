@@ -4,6 +4,7 @@ ghost use Rattle.claims.specs.Rows.{row};
 ghost use Rattle.row_claims.specs.Meaning.{RowClaim};
 ghost use Rattle.row_claims.specs.Bytes.{row_bytes, SaysRow};
 ghost use Rattle.row_claims.specs.Reading as reading;
+ghost use Rattle.row_judge.specs.declared.made.Rows.TheVariants.{With, Without};
 ghost use Rattle.row_judge.specs.Made.{Asked, NotMade, bytes_of, part_of};
 
 use crate::claim_bytes::ClaimBytes;
