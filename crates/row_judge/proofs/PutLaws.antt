@@ -57,7 +57,7 @@ module _ (r : ℕ) (o m o' q s : List ℕ) where
   over_not e i h = no_not r (length o) q s e (λ c t f. omega (arith, h c t f, ap length i, length-append o (4 ∷ [])))
 
   pub put_not : (c : RowClaim) (t : List ℕ) → 4 ∷ q ≡ s → m ≡ o ++ 4 ∷ [] → Puts r c m o' q t → Puts r (not1 c) o o' s t
-  put_not c t e i p = record { read = ap (λ z. 4 ∷ z) p.read ∙ e; put = after (4 ∷ []) (row (in_row r c)) (row (in_row r (not1 c))) i p.put refl }
+  put_not c t e i p = record { read = ap (λ z. 4 ∷ z) p.read ∙ e; put = after (4 ∷ []) (row (in_row r c)) (row (in_row r (not1 c))) i p.put refl; few = p.few }
 
   pub over_some : (x : ℕ) → 6 ∷ x ∷ q ≡ s → m ≡ o ++ 6 ∷ x ∷ 5 ∷ 0 ∷ x ∷ r ∷ [] → Overlong r (length m) q → Overlong r (length o) s
   over_some x e i h = no_some r (length o) x q s e (λ c t f. omega (arith, h c t f, ap length i, length-append o (6 ∷ x ∷ 5 ∷ 0 ∷ x ∷ r ∷ [])))
@@ -66,6 +66,7 @@ module _ (r : ℕ) (o m o' q s : List ℕ) where
   put_some x c t e i p = record {
     read = ap (λ z. 6 ∷ x ∷ z) p.read ∙ e;
     put = after (6 ∷ x ∷ 5 ∷ 0 ∷ x ∷ r ∷ []) (row (in_row r c)) (row (in_row r (some x c))) i p.put refl;
+    few = p.few;
   }
 
   pub over_first : 5 ∷ q ≡ s → m ≡ o ++ 5 ∷ [] → Overlong r (length m) q → Overlong r (length o) s
@@ -87,6 +88,7 @@ module _ (r : ℕ) (c : RowClaim) (o m n q s u : List ℕ) (e : 5 ∷ q ≡ s) (
     put =
         let j : n ≡ o ++ (5 ∷ row (in_row r c)) = f.put ∙ ap (λ m. m ++ row (in_row r c)) i ∙ append_assoc o (5 ∷ []) (row (in_row r c)) in
         g.put ∙ ap (λ z. z ++ row (in_row r d)) j ∙ append_assoc o (5 ∷ row (in_row r c)) (row (in_row r d));
+    few = g.few;
   }
 
 -- what is said of the last part is said of the whole

@@ -17,7 +17,7 @@ use Rattle.row_judge.specs.Made.{Asked, bytes_of}
 use Rattle.row_judge.specs.Finding.{NotAll, FindsFirst}
 use Rattle.row_judge.specs.Says.{BothFit, NeitherFits}
 use Rattle.row_judge.specs.declared.made.Rows.TheVariants.{With, Without}
-use Rattle.row_judge.specs.declared.first_word.FirstWord.TheVariants.{Nothing, Long, TooLarge}
+use Rattle.row_judge.specs.declared.finding.FirstWord.TheVariants.{Nothing, Long, TooLarge}
 use Rattle.row_judge.proofs.CallLaws.{Numbers, numbers, with_claim, without_claim, fits_not, fits_claim}
 
 marked_length : (b : ℕ) (w : Word) → length (marked b w) ≡ length w

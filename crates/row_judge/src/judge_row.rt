@@ -2,7 +2,7 @@
 ghost use Rattle.std.specs.Prelude.{length};
 ghost use Rattle.row_judge.specs.Says.{RowJudgedPost};
 
-use crate::first_word::{FirstWord, first_word};
+use crate::finding::{FirstWord, first_word};
 use crate::made::{Unmade, claim_with, claim_without};
 use crate::modules::write_rows;
 use crate::row_judged::RowJudged;
