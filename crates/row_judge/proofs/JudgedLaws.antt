@@ -40,6 +40,22 @@ floor_is s k c a n v f x e = record {
   of_none = λ g. absurd (g (k, c, a));
 }
 
+-- the floor as the code reckons it: f for the claim whose bytes are t, and three times m words
+pub record AskedFloor (s : List ℕ) (k : ℕ) (c : RowClaim) (n f m : ℕ) : Type 0 where
+  pub wide : ℕ
+  pub width : Width (bytes_of Without k c) wide
+  pub call : f ≡ floor_words wide (bytes_of Without k c) n
+  pub more : m ≡ n
+  pub floor : RowFloor s n (f + 3 * m)
+
+pub asked_floor : (s : List ℕ) (k : ℕ) (c : RowClaim) → Asked s k c → (n f m : ℕ) (t : List ℕ) → t ≡ bytes_of Without k c → (v : ℕ) × Width t v × (f ≡ floor_words v t n) → m ≡ n → AskedFloor s k c n f m
+asked_floor s k c a n f m t i told e =
+    let (v, x, g) = told in
+    let y = subst (λ t. Width t v) i x in
+    let h : f ≡ floor_words v (bytes_of Without k c) n = g ∙ ap (λ t. floor_words v t n) i in
+    let j : f + 3 * m ≡ floor_words v (bytes_of Without k c) n + 3 * n = ap (λ f. f + 3 * m) h ∙ ap (λ m. floor_words v (bytes_of Without k c) n + 3 * m) e in
+    record { wide = v; width = y; call = h; more = e; floor = floor_is s k c a n v (f + 3 * m) y j }
+
 -- No claim is made.
 none_below : (w : ℕ) → w < 0 → ⊥
 none_below w h = omega arith

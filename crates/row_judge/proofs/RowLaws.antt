@@ -17,7 +17,7 @@ use Rattle.row_judge.specs.Made.{Asked, bytes_of}
 use Rattle.row_judge.specs.Finding.{NotAll, FindsFirst}
 use Rattle.row_judge.specs.Says.{BothFit, NeitherFits}
 use Rattle.row_judge.specs.declared.made.Rows.TheVariants.{With, Without}
-use Rattle.row_judge.specs.declared.first_word.FirstWord.TheVariants.{Nothing, Long, TooLarge}
+use Rattle.row_judge.specs.declared.finding.FirstWord.TheVariants.{Nothing, Long, TooLarge}
 use Rattle.row_judge.proofs.CallLaws.{Numbers, numbers, with_claim, without_claim, fits_not, fits_claim}
 
 marked_length : (b : ℕ) (w : Word) → length (marked b w) ≡ length w
@@ -41,7 +41,7 @@ no_row b h (a ∷ w) g = bool_apart ((g.places 0).1 (omega arith)) (none b h)
 not_every : (b m : ℕ) (d : C) (P : Word → Type 0) → 1 ≤ b → b < m → Tells b d P → ((w : Word) → Columns m w → Of d w) → ⊥
 not_every b m d P h l t all =
     let one : Columns m (1 ∷ []) = (let p : 2 ^ 1 ≤ 2 ^ m = pow_mono (let z : 1 ≤ m = omega arith in z) in omega arith, tt) in
-    let (w, hw, g, p) = (t.of_sets (sets (1 ∷ []))).0 (all (1 ∷ []) one) in
+    let (w, hw, g, p) = (t.of_sets (1 ∷ [])).0 (all (1 ∷ []) one) in
     no_row b h w g
 
 -- of the one claim that bytes are, so of every one

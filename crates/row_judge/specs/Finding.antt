@@ -6,8 +6,8 @@ use Rattle.claims.specs.Rows.{Claim}
 use Rattle.claims.specs.Sizes.{Fits}
 use Rattle.lengths.specs.Answer.{First}
 use Rattle.workspace.specs.Floor.{Width, floor_words}
-use Rattle.row_judge.specs.declared.first_word.FirstWord.{FirstWord}
-use Rattle.row_judge.specs.declared.first_word.FirstWord.TheVariants.{Nothing, Long, TooLarge}
+use Rattle.row_judge.specs.declared.finding.FirstWord.{FirstWord}
+use Rattle.row_judge.specs.declared.finding.FirstWord.TheVariants.{Nothing, Long, TooLarge}
 
 -- the claim that bytes s are does not hold of every word
 abbrev pub NotAll : List ℕ → Type 0

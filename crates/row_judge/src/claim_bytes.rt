@@ -1,5 +1,5 @@
 // The bytes of a claim that is being written, at most as many as a claim may have.
-ghost use Rattle.std.specs.Prelude.{◌≡◌, ℕ, ◌+◌, ◌<◌, ◌≤◌, List, [], ◌++◌, length, take, MatchOption};
+ghost use Rattle.std.specs.Prelude.{◌≡◌, ℕ, ◌+◌, ◌<◌, ◌≤◌, List, [], ◌++◌, length, take, IfSome, MatchOption};
 
 use std::marker::Model;
 
@@ -33,7 +33,8 @@ impl ClaimBytes {
 
     /// Puts bytes behind those that are there. `None` where there is no room for all of them.
     pub fn push(&mut self, bytes: &[u8]) -> Option<()>
-        ensures { MatchOption result (1024 < length self.old + length bytes.now) (λ _. self.new ≡ self.old ++ bytes.now) }
+        ensures put { MatchOption result (1024 < length self.old + length bytes.now) (λ _. self.new ≡ self.old ++ bytes.now) }
+        ensures few { IfSome result (λ _. length self.new ≤ 1024) }
     {
         if MOST_BYTES - self.len < bytes.len() {
             return None;

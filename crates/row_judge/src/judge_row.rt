@@ -2,7 +2,7 @@
 ghost use Rattle.std.specs.Prelude.{length};
 ghost use Rattle.row_judge.specs.Says.{RowJudgedPost};
 
-use crate::first_word::{FirstWord, first_word};
+use crate::finding::{FirstWord, first_word};
 use crate::made::{Unmade, claim_with, claim_without};
 use crate::modules::write_rows;
 use crate::row_judged::RowJudged;
@@ -41,6 +41,7 @@ pub fn judge_row(claim: &[u8], most: u32, out: &mut [u32], work: &mut [u32]) -> 
     if out.len() < a + b {
         return RowJudged::OutFull(a, b);
     }
+    let words = &words[..];
     write_rows(sets, &words[..a], &words[n..n + b], out);
     RowJudged::Both(a, b)
 }

@@ -2,7 +2,7 @@
 #![tactic(auto)]
 
 pub mod claim_bytes;
-pub mod first_word;
+pub mod finding;
 pub mod floor;
 pub mod judge_row;
 pub mod made;

@@ -1,9 +1,10 @@
 // The claims about sets that are made of a row claim.
-ghost use Rattle.std.specs.Prelude.{◌≡◌, ℕ, ◌+◌, ◌<◌, ◌≤◌, ◌++◌, length, MatchOption, MatchResult};
+ghost use Rattle.std.specs.Prelude.{◌≡◌, ℕ, ◌+◌, ◌<◌, ◌≤◌, ◌++◌, length, IfSome, MatchOption, MatchResult};
 ghost use Rattle.claims.specs.Rows.{row};
 ghost use Rattle.row_claims.specs.Meaning.{RowClaim};
 ghost use Rattle.row_claims.specs.Bytes.{row_bytes, SaysRow};
 ghost use Rattle.row_claims.specs.Reading as reading;
+ghost use Rattle.row_judge.specs.declared.made.Rows.TheVariants.{With, Without};
 ghost use Rattle.row_judge.specs.Made.{Asked, NotMade, bytes_of, part_of};
 
 use crate::claim_bytes::ClaimBytes;
@@ -39,7 +40,8 @@ fn further_sets(sets: u8) -> u8
 
 // The row claim that the bytes say, or its opposite, behind what is there.
 fn put_part(out: &mut ClaimBytes, rows: Rows, sets: u8, body: &[u8]) -> Option<()>
-    ensures { (c : RowClaim) → row_bytes c ≡ body.now → MatchOption result (1024 < length out.old + length (row (part_of rows sets c))) (λ _. out.new ≡ out.old ++ row (part_of rows sets c)) }
+    ensures put { (c : RowClaim) → row_bytes c ≡ body.now → MatchOption result (1024 < length out.old + length (row (part_of rows sets c))) (λ _. out.new ≡ out.old ++ row (part_of rows sets c)) }
+    ensures few { IfSome result (λ _. length out.new ≤ 1024) }
 {
     match rows {
         Rows::With => {
@@ -56,7 +58,8 @@ fn put_part(out: &mut ClaimBytes, rows: Rows, sets: u8, body: &[u8]) -> Option<(
 /// The claim that tells of these rows. `None` where it takes more than 1,024 bytes.
 pub fn claim_of(claim: &[u8], sets: u8, rows: Rows) -> Option<ClaimBytes>
     requires { sets ≤ 11 }
-    ensures { (c : RowClaim) → SaysRow claim.now sets c → MatchOption result (1024 < length (bytes_of rows sets c)) (λ made. made ≡ bytes_of rows sets c) }
+    ensures made { (c : RowClaim) → SaysRow claim.now sets c → MatchOption result (1024 < length (bytes_of rows sets c)) (λ made. made ≡ bytes_of rows sets c) }
+    ensures few { IfSome result (λ made. length made ≤ 1024) }
 {
     let [_, body @ ..] = claim else {
         return None;

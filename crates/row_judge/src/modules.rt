@@ -8,8 +8,8 @@ fn write_modules(bits: u8, marked: &[u32], out: &mut [u32])
     ensures { out.new ≡ map (λ a. a % 2 ^ bits) marked.now }
 {
     let mark = 1u32 << bits;
-    for (to, a) in out.iter_mut().zip(marked) {
-        *to = *a % mark;
+    for (i, a) in marked.iter().enumerate() {
+        out[i] = *a % mark;
     }
 }
 
