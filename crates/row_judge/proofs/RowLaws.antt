@@ -18,11 +18,8 @@ use Rattle.row_judge.specs.Finding.{NotAll, FindsFirst}
 use Rattle.row_judge.specs.Says.{BothFit, NeitherFits}
 use Rattle.row_judge.specs.declared.made.Rows.TheVariants.{With, Without}
 use Rattle.row_judge.specs.declared.finding.FirstWord.TheVariants.{Nothing, Long, TooLarge}
+use Rattle.row_judge.proofs.ModulesLaws.{marked_length}
 use Rattle.row_judge.proofs.CallLaws.{Numbers, numbers, with_claim, without_claim, fits_not, fits_claim}
-
-marked_length : (b : ℕ) (w : Word) → length (marked b w) ≡ length w
-marked_length b [] = refl
-marked_length b (a ∷ w) = ap suc (marked_length b w)
 
 -- the word of the one column 1 is no row: set 0 has its place, and set b has not
 no_row : (b : ℕ) → 1 ≤ b → (w : Word) → Gives b (below b) same_number (sets (1 ∷ [])) w → ⊥

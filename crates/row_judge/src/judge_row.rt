@@ -41,7 +41,7 @@ pub fn judge_row(claim: &[u8], most: u32, out: &mut [u32], work: &mut [u32]) -> 
     if out.len() < a + b {
         return RowJudged::OutFull(a, b);
     }
-    let words = &words[..];
-    write_rows(sets, &words[..a], &words[n..n + b], out);
+    let (first, second) = words.split_at(n);
+    write_rows(sets, &first[..a], &second[..b], out);
     RowJudged::Both(a, b)
 }
