@@ -1,9 +1,7 @@
 // The floor for other languages.
 ghost use Rattle.std.specs.Prelude.{◌≡◌, ◌-◌, ◌^◌, ℕ, min};
 ghost use Rattle.workspace.specs.Floor.{Width, floor_words};
-ghost use Rattle.row_judge.specs.Made.{RowFloor};
 
-use row_judge::floor::row_floor;
 use workspace::floor::floor;
 
 // How many work words the call asks for; 2^64 - 1 where they are more.
@@ -12,12 +10,4 @@ pub extern "C" fn ceivuron_floor(claim: &[u8], most: u32) -> u64
     ensures { (v : ℕ) × Width claim.now v × (result ≡ min (floor_words v claim.now most) (2 ^ 64 - 1)) }
 {
     floor(claim, most).min(u128::from(u64::MAX)) as u64
-}
-
-// How many work words the call on a row claim asks for, 0 where no claim about sets is made of it; 2^64 - 1 where they are more.
-#[unsafe(no_mangle)]
-pub extern "C" fn ceivuron_row_floor(claim: &[u8], most: u32) -> u64
-    ensures { (f : ℕ) × RowFloor claim.now most f × (result ≡ min f (2 ^ 64 - 1)) }
-{
-    row_floor(claim, most).min(u128::from(u64::MAX)) as u64
 }

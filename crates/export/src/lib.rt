@@ -3,5 +3,6 @@
 #![tactic(auto)]
 
 pub mod floor;
+pub mod row_floor;
 pub mod row_verdict;
 pub mod verdict;

@@ -1,12 +1,11 @@
 -- The claims that are made of a row claim, asked of the call: both fit into so many classes or neither does, both ask for no more work words than the longer.
-use Rattle.std.proofs.Common.{◌≡◌, ℕ, suc, ◌+◌, ◌*◌, ◌^◌, ◌<◌, ◌≤◌, ◌&&◌, T, leb, ◌⊎◌, List, [], ◌∷◌, length, sym, refl, ap, ◌∙◌, subst, inl, inr, arith, max, le→leb, pow_mono, length-append}
-use Rattle.words.specs.Words.{Word, Columns}
-use Rattle.words.specs.Languages.{SameLeft, Classes}
+use Rattle.std.proofs.Common.{◌≡◌, ℕ, suc, ◌+◌, ◌*◌, ◌^◌, ◌<◌, ◌≤◌, T, leb, ◌⊎◌, List, ◌∷◌, length, sym, refl, ◌∙◌, subst, inl, inr, arith, le→leb, length-append}
+use Rattle.words.specs.Words.{Word}
+use Rattle.words.specs.Languages.{SameLeft}
 use Rattle.claims.specs.Claims.{C, Of, not1, and1}
-use Rattle.claims.specs.Sizes.{Fits, Top, Apart}
+use Rattle.claims.specs.Sizes.{Fits, Top}
 use Rattle.claims.specs.Rows.{row, ok, Claim}
 use Rattle.claims.proofs.FrontLaws.{pass_both}
-use Rattle.claims.proofs.OneClaim.{one_claim}
 use Rattle.automata.proofs.Told.{told}
 use Rattle.narrowing.specs.Mentioned.{widest}
 use Rattle.workspace.specs.Floor.{Width, floor_words}
@@ -17,9 +16,8 @@ use Rattle.row_claims.specs.Reading.{row_ok, further, further_sets, row_with, ro
 use Rattle.row_claims.specs.Bytes.{SaysRow}
 use Rattle.row_claims.proofs.FrontLaws.{opened}
 use Rattle.row_claims.proofs.Told.{further_in}
-use Rattle.row_judge.specs.Made.{Asked, bytes_of, claim_of}
+use Rattle.row_judge.specs.Made.{Asked, bytes_of}
 use Rattle.row_judge.specs.Finding.{Enough}
-use Rattle.row_judge.specs.declared.made.Rows.{Rows}
 use Rattle.row_judge.specs.declared.made.Rows.TheVariants.{With, Without}
 
 -- what is left of a claim's opposite tells words apart as what is left of the claim does

@@ -1,17 +1,15 @@
 -- The call on a row claim: what each answer says of the bytes, and that the work words suffice.
-use Rattle.std.proofs.Common.{◌≡◌, ℕ, suc, ◌+◌, ◌*◌, ◌<◌, ◌≤◌, List, [], ◌∷◌, ◌++◌, length, take, drop, sym, refl, ap, ◌∙◌, subst, arith}
+use Rattle.std.proofs.Common.{◌≡◌, ℕ, ◌+◌, ◌*◌, ◌<◌, ◌≤◌, List, length, take, drop, refl, ap, ◌∙◌, subst, arith}
 use Rattle.words.specs.Words.{Word, Columns}
 use Rattle.workspace.specs.Floor.{Width, floor_words}
-use Rattle.rows.specs.RowClaims.{First}
 use Rattle.row_claims.specs.Meaning.{RowClaim, OfRow}
-use Rattle.row_claims.specs.Bytes.{SaysRow, IsRowClaim}
+use Rattle.row_claims.specs.Bytes.{SaysRow}
 use Rattle.row_claims.proofs.OneRowClaim.{one_row_claim}
-use Rattle.row_judge.specs.Made.{Asked, IsAsked, NotMade, RowFloor, bytes_of}
-use Rattle.row_judge.specs.Says.{BothFit, NeitherFits, FirstRows, RowJudgedSays, RowJudgedPost}
+use Rattle.row_judge.specs.Made.{Asked, NotMade, RowFloor, bytes_of}
+use Rattle.row_judge.specs.Says.{BothFit, NeitherFits, FirstRows, RowJudgedPost}
 use Rattle.row_judge.specs.declared.made.Rows.TheVariants.{Without}
 use Rattle.row_judge.specs.declared.made.Unmade.{Unmade}
 use Rattle.row_judge.specs.declared.made.Unmade.TheVariants as unmade
-use Rattle.row_judge.specs.declared.row_judged.RowJudged.{RowJudged}
 use Rattle.row_judge.specs.declared.row_judged.RowJudged.TheVariants.{Always, Never, Both, NoRowClaim, TooLong, TooManySets, Many, OutFull, Few}
 
 -- Bytes are one row claim only, so what is known of that one is said of every row claim that they are.

@@ -1,15 +1,13 @@
 -- The bytes of the claims that are made of a row claim, from what was put, and no room for them.
-use Rattle.std.proofs.Common.{◌≡◌, ℕ, suc, ◌+◌, ◌-◌, ◌<◌, ◌≤◌, List, [], ◌∷◌, ◌++◌, length, take, drop, Some, None, Option, sym, refl, ap, ◌∙◌, subst, append_assoc, append-nil, arith, length-append, MatchOption}
+use Rattle.std.proofs.Common.{◌≡◌, ℕ, ◌+◌, ◌<◌, ◌≤◌, List, [], ◌++◌, length, drop, sym, ap, ◌∙◌, subst, append-nil, arith}
 use Rattle.claims.specs.Rows.{row}
-use Rattle.rows.specs.RowClaims.{is_row}
 use Rattle.row_claims.specs.Meaning.{RowClaim}
-use Rattle.row_claims.specs.Reading.{further, further_sets}
+use Rattle.row_claims.specs.Reading.{further}
 use Rattle.row_claims.specs.Bytes.{row_bytes, SaysRow}
-use Rattle.row_claims.proofs.OneRowClaim.{one_front, one_row_claim}
+use Rattle.row_claims.proofs.OneRowClaim.{one_front}
 use Rattle.row_judge.specs.Put.{Overlong, Puts}
-use Rattle.row_judge.specs.Made.{Asked, bytes_of, part_of}
-use Rattle.row_judge.specs.declared.made.Rows.{Rows}
-use Rattle.row_judge.specs.declared.made.Rows.TheVariants.{With, Without}
+use Rattle.row_judge.specs.Made.{Asked, bytes_of}
+use Rattle.row_judge.specs.declared.made.Rows.TheVariants.{Without}
 
 -- the bytes are a row claim alone, so that is what was put
 pub put_alone : (k : ℕ) (c d : RowClaim) (o o' s t : List ℕ) → row_bytes c ≡ s → Puts k d o o' s t → o' ≡ o ++ row (further k c)

@@ -1,5 +1,5 @@
 -- A row claim put as a claim about sets, sign by sign: its parts put one behind the other, and no room for it where there is none for a part.
-use Rattle.std.proofs.Common.{◌≡◌, ℕ, suc, ◌+◌, ◌<◌, ◌≤◌, List, [], ◌∷◌, ◌++◌, length, take, drop, Some, None, Option, sym, ap, ◌∙◌, refl, subst, append_assoc, arith, length-append, Bor, MatchOption}
+use Rattle.std.proofs.Common.{◌≡◌, ℕ, ◌+◌, ◌<◌, List, [], ◌∷◌, ◌++◌, length, take, drop, Some, None, Option, sym, ap, ◌∙◌, refl, subst, append_assoc, arith, length-append, Bor, MatchOption}
 use Rattle.std.proofs.lemmas.List.{take_at}
 use Rattle.kinds.specs.Atoms.{row_of}
 use Rattle.kinds.specs.declared.atom.Atom.{Atom}

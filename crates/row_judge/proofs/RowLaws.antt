@@ -7,7 +7,6 @@ use Rattle.claims.specs.Sizes.{Fits}
 use Rattle.claims.proofs.OneClaim.{one_claim}
 use Rattle.rows.specs.RowClaims.{marked, First, Tells, Gives, below, same_number, is_row}
 use Rattle.rows.proofs.Bools.{bool_apart}
-use Rattle.rows.proofs.StepLaws.{sets_end}
 use Rattle.lengths.specs.Answer.{First as FirstOf}
 use Rattle.row_claims.specs.Meaning.{RowClaim, OfRow}
 use Rattle.row_claims.specs.Reading.{further, further_sets, row_with, row_without}

@@ -1,4 +1,4 @@
-use Rattle.std.proofs.Common.{◌≡◌, ℕ, ◌∙◌}
+use Rattle.std.proofs.Common.{◌∙◌}
 use Rattle.row_judge.proofs.JudgedLaws.{asked_floor, no_floor}
 use Rattle.row_judge.proofs.floor.row_floor.Goals as goal
 

@@ -1,5 +1,4 @@
-use Rattle.std.proofs.Common.{◌≡◌, ℕ, ◌≤◌, length, sym, ap, ◌∙◌, subst, arith}
-use Rattle.row_claims.specs.Reading.{further_sets}
+use Rattle.std.proofs.Common.{arith}
 use Rattle.row_judge.proofs.MadeLaws.{fits_call}
 use Rattle.row_judge.proofs.made.claim_without.Goals as goal
 

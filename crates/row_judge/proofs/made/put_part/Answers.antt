@@ -1,8 +1,8 @@
-use Rattle.std.proofs.Common.{◌≡◌, ℕ, ◌+◌, ◌<◌, [], ◌∷◌, ◌++◌, length, sym, ap, ◌∙◌, subst, append_assoc, arith, length-append, MatchOption}
+use Rattle.std.proofs.Common.{◌≡◌, ◌+◌, ◌<◌, [], ◌∷◌, ◌++◌, length, sym, ap, ◌∙◌, subst, append_assoc, arith, length-append}
 use Rattle.claims.specs.Rows.{row}
 use Rattle.row_claims.specs.Reading.{further}
 use Rattle.row_judge.specs.Made.{part_of}
-use Rattle.row_judge.specs.declared.made.Rows.TheVariants.{With, Without}
+use Rattle.row_judge.specs.declared.made.Rows.TheVariants.{Without}
 use Rattle.row_judge.proofs.MadeLaws.{put_alone, long_alone}
 use Rattle.row_judge.proofs.made.put_part.Goals as goal
 

@@ -1,4 +1,4 @@
-use Rattle.std.proofs.Common.{◌≡◌, ℕ, ◌+◌, ◌<◌, [], ◌∷◌, ◌++◌, length, take, sym, ap, ◌∙◌, subst, arith}
+use Rattle.std.proofs.Common.{◌≡◌, ◌+◌, ◌<◌, [], ◌∷◌, ◌++◌, length, ap, ◌∙◌, subst, arith}
 use Rattle.kinds.specs.Atoms.{row_of}
 use Rattle.row_claims.specs.Meaning.{atom, last, not1, and1, some}
 use Rattle.row_claims.proofs.SignLaws.{sign_is}
