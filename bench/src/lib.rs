@@ -3,6 +3,7 @@
 pub mod claims;
 pub mod figures;
 pub mod mona;
+pub mod mona_rows;
 pub mod plain;
 pub mod samples;
 pub mod usage;

@@ -5,8 +5,8 @@ use std::io;
 use std::path::Path;
 use std::process::Command;
 
-use ceivuron::Answer;
 use ceivuron::part::Part;
+use ceivuron::{Answer, RowAnswer};
 
 /// The text of a file for MONA: the same sets, the same claim.
 ///
@@ -83,6 +83,16 @@ impl Shortest {
             Answer::Always => Some(Shortest { holds: Some(0), fails: None }),
             Answer::Never => Some(Shortest { holds: None, fails: Some(0) }),
             Answer::Both { holds, fails } => Some(Shortest { holds: Some(holds.len()), fails: Some(fails.len()) }),
+            _ => None,
+        }
+    }
+
+    /// The same of rows, by an answer of the call on row claims.
+    pub fn row_judged(answer: &RowAnswer) -> Option<Shortest> {
+        match answer {
+            RowAnswer::Always => Some(Shortest { holds: Some(0), fails: None }),
+            RowAnswer::Never => Some(Shortest { holds: None, fails: Some(0) }),
+            RowAnswer::Both { holds, fails } => Some(Shortest { holds: Some(holds.len()), fails: Some(fails.len()) }),
             _ => None,
         }
     }

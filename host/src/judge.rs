@@ -3,10 +3,11 @@
 use std::error::Error;
 use std::fmt;
 
-use crate::answer::Answer;
-use crate::call::{Verdict, call};
+use crate::answer::{Answer, RowAnswer};
+use crate::call::{RowVerdict, Verdict, call, call_row};
 use crate::claim::Claim;
-use crate::memory::{Buffer, floor};
+use crate::memory::{Buffer, floor, row_floor};
+use crate::row_claim::RowClaim;
 
 /// The limit on work words of a new [`Judge`]: 2^30, which are 4 GiB. A large floor takes memory only as far as the
 /// call uses it.
@@ -69,7 +70,42 @@ impl Judge {
 
     /// The same, with at most `out_words` columns for the two first words together.
     pub fn judge_within(&mut self, claim: &Claim, most: u32, out_words: usize) -> Result<Answer, Refused> {
-        let words = floor(claim.bytes(), most);
+        let (out, work) = self.lend(floor(claim.bytes(), most), most, out_words)?;
+        Ok(match call(claim.bytes(), most, out, work) {
+            Verdict::Always => Answer::Always,
+            Verdict::Never => Answer::Never,
+            Verdict::Both(a, b) => Answer::Both { holds: out[..a].to_vec(), fails: out[a..a + b].to_vec() },
+            Verdict::NoClaim => Answer::NoClaim,
+            Verdict::Many => Answer::Many,
+            Verdict::OutFull(holds, fails) => Answer::OutFull { holds, fails },
+            Verdict::Few => unreachable!("the call was lent what it asks for"),
+        })
+    }
+
+    /// Whether the row claim holds of every row, of none, or of which first, where at most `most` classes may be told apart at each
+    /// part of the claims about sets that are made of it.
+    pub fn judge_row(&mut self, claim: &RowClaim, most: u32) -> Result<RowAnswer, Refused> {
+        self.judge_row_within(claim, most, usize::MAX)
+    }
+
+    /// The same, with at most `out_words` columns for the two first rows together.
+    pub fn judge_row_within(&mut self, claim: &RowClaim, most: u32, out_words: usize) -> Result<RowAnswer, Refused> {
+        let (out, work) = self.lend(row_floor(claim.bytes(), most), most, out_words)?;
+        Ok(match call_row(claim.bytes(), most, out, work) {
+            RowVerdict::Always => RowAnswer::Always,
+            RowVerdict::Never => RowAnswer::Never,
+            RowVerdict::Both(a, b) => RowAnswer::Both { holds: out[..a].to_vec(), fails: out[a..a + b].to_vec() },
+            RowVerdict::NoRowClaim => RowAnswer::NoRowClaim,
+            RowVerdict::Many => RowAnswer::Many,
+            RowVerdict::OutFull(holds, fails) => RowAnswer::OutFull { holds, fails },
+            RowVerdict::Few => unreachable!("the call was lent what it asks for"),
+            RowVerdict::TooLong => RowAnswer::TooLong,
+            RowVerdict::TooManySets => RowAnswer::TooManySets,
+        })
+    }
+
+    /// Out and work words: at most `out_words` and twice `most` of the one, `words` of the other.
+    fn lend(&mut self, words: u128, most: u32, out_words: usize) -> Result<(&mut [u32], &mut [u32]), Refused> {
         if words > u128::from(self.limit) {
             let limit = self.limit;
             return Err(Refused::TooLarge { words, limit });
@@ -81,15 +117,7 @@ impl Judge {
         // More than 2n words are never used, so no more are lent.
         let room = out_words.min(2 * most as usize);
         let out = self.out.lend(room).ok_or(refused)?;
-        Ok(match call(claim.bytes(), most, out, work) {
-            Verdict::Always => Answer::Always,
-            Verdict::Never => Answer::Never,
-            Verdict::Both(a, b) => Answer::Both { holds: out[..a].to_vec(), fails: out[a..a + b].to_vec() },
-            Verdict::NoClaim => Answer::NoClaim,
-            Verdict::Many => Answer::Many,
-            Verdict::OutFull(holds, fails) => Answer::OutFull { holds, fails },
-            Verdict::Few => unreachable!("the call was lent what it asks for"),
-        })
+        Ok((out, work))
     }
 }
 

@@ -30,6 +30,20 @@
 //! assert!(matches!(judge.judge(&claim, u32::MAX), Err(Refused::TooLarge { .. })));
 //! # Ok::<(), Refused>(())
 //! ```
+//!
+//! A [`RowClaim`] is about a row that has ends: no set has a place behind its last one. [`Judge::judge_row`] says whether it holds of
+//! every row, of none, or of which first.
+//!
+//! ```
+//! use ceivuron::row_part::{and, last, single, some};
+//! use ceivuron::{Judge, Refused, RowAnswer, RowClaim};
+//!
+//! // Some place is the last one: so it is in every row but the empty one.
+//! let claim = RowClaim::new(1, &some(0, and(single(0), last(0))));
+//! let answer = Judge::new().judge_row(&claim, 30)?;
+//! assert_eq!(answer, RowAnswer::Both { holds: vec![0], fails: vec![] });
+//! # Ok::<(), Refused>(())
+//! ```
 
 mod answer;
 mod call;
@@ -39,11 +53,14 @@ pub mod line;
 mod memory;
 pub mod part;
 pub mod progress;
+mod row_claim;
+pub mod row_part;
 pub mod second;
 pub mod start;
 
-pub use answer::Answer;
-pub use call::{Verdict, call};
+pub use answer::{Answer, RowAnswer};
+pub use call::{RowVerdict, Verdict, call, call_row};
 pub use claim::Claim;
 pub use judge::{Judge, Refused, WORK_LIMIT, judge};
-pub use memory::floor;
+pub use memory::{floor, row_floor};
+pub use row_claim::RowClaim;

@@ -2,7 +2,7 @@
 
 use std::alloc::{Layout, alloc_zeroed};
 
-use crate::call::floor_words;
+use crate::call::{floor_words, row_floor_words};
 
 /// The work words that the call asks for: 8,192 + 64s + (n + 1)(16 · 2^w + 256 + n), for s bytes, n = `most` and w the most
 /// sets that any part of the claim mentions; w is 0 where the bytes are no claim. A part mentions the sets of its signs
@@ -11,13 +11,24 @@ use crate::call::floor_words;
 /// The library says this number, up to 2^64 - 1. For the largest `most` it passes that, and is reckoned from those for 0
 /// and 1: it is a polynomial in n whose second differences are all 2.
 pub fn floor(claim: &[u8], most: u32) -> u128 {
-    let words = |most| u128::from(floor_words(claim, most));
-    let told = words(most);
-    if told < u128::from(u64::MAX) {
-        return told;
+    reckoned(|most| floor_words(claim, most), most)
+}
+
+/// The work words that the call on a row claim asks for: the floor of the claim about sets that is made of it for the rows of which it
+/// does not hold, and 3n besides. That claim is the longer of two, with one set more than the row claim, but at least 3. No words are
+/// asked for where the bytes are no row claim, or what is made of them would be too long or about too many sets.
+pub fn row_floor(claim: &[u8], most: u32) -> u128 {
+    reckoned(|most| row_floor_words(claim, most), most)
+}
+
+/// A number of words that is told up to 2^64 - 1, and is a polynomial in `most` whose second differences are all 2 where it is more.
+fn reckoned(told: impl Fn(u32) -> u64, most: u32) -> u128 {
+    let words = told(most);
+    if words < u64::MAX {
+        return words.into();
     }
-    let (n, of_none) = (u128::from(most), words(0));
-    of_none + n * (words(1) - of_none) + n * (n - 1)
+    let (n, of_none, of_one) = (u128::from(most), u128::from(told(0)), u128::from(told(1)));
+    of_none + n * (of_one - of_none) + n * (n - 1)
 }
 
 /// The fewest words that a buffer takes: 256 KiB. So much the allocator takes from the system for us alone, 0 already and in no page

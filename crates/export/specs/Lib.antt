@@ -1,2 +1,3 @@
--- The call for other languages: an answer as three numbers.
+-- The calls for other languages: an answer as three numbers.
 pub mod Verdict
+pub mod RowVerdict

@@ -1,4 +1,5 @@
-//! Compares the proved call with the second program: `compare [CLAIMS [SEED]]`, 600 claims without a number, and the worked claims.
+//! Compares the proved calls with the second program: `compare [CLAIMS [SEED [ROWCLAIMS]]]`, 600 claims and 500 row claims without a
+//! number, and the worked claims.
 
 use std::process::ExitCode;
 use std::time::Instant;
@@ -8,8 +9,10 @@ use ceivuron::part::Part;
 use ceivuron::second::compared::{Comparison, Effort};
 use ceivuron::second::random::Random;
 use ceivuron::second::reach::depth;
+use ceivuron::second::row_compared;
+use ceivuron::second::row_tally::RowTally;
 use ceivuron::second::tally::Tally;
-use ceivuron::{Answer, Claim, Judge};
+use ceivuron::{Answer, Claim, Judge, RowClaim};
 
 /// Claims that were worked out by hand, and claims that older tools had wrong, with their answers: `n hexbytes => answer`.
 const WORKED: &str = include_str!("../../tests/worked.txt");
@@ -18,6 +21,7 @@ fn main() -> ExitCode {
     let mut numbers = std::env::args().skip(1).map(|word| word.parse::<u64>().expect("a number"));
     let count = numbers.next().unwrap_or(600) as usize;
     let seed = numbers.next().unwrap_or(1);
+    let row_count = numbers.next().unwrap_or(500) as usize;
     let begin = Instant::now();
     let mut comparison = Comparison::new(Effort { columns: 6, budget: 1_000_000 });
     let mut differences = 0;
@@ -35,7 +39,7 @@ fn main() -> ExitCode {
         }
         // each claim stands there at its least n and one below; it is compared once
         if let (Some((sets, part)), true) = (question.claim.read(), said != Answer::Many) {
-            differences += report(&question.claim, comparison.compare(sets, &part, &mut tally));
+            differences += report(question.claim.bytes(), comparison.compare(sets, &part, &mut tally));
         }
     }
     println!("worked claims: {answers} answers as stored");
@@ -45,9 +49,19 @@ fn main() -> ExitCode {
     let mut random = Random::new(seed);
     while tally.claims < count {
         let (sets, part) = draw(&mut random, &mut comparison.judge, &tally, count);
-        differences += report(&Claim::new(sets, &part), comparison.compare(sets, &part, &mut tally));
+        differences += report(Claim::new(sets, &part).bytes(), comparison.compare(sets, &part, &mut tally));
     }
     println!("claims made at random, from seed {seed}:");
+    println!("{tally}");
+
+    let mut tally = RowTally::default();
+    let mut random = Random::new(seed);
+    while tally.claims < row_count {
+        let (sets, claim) = row_compared::draw(&mut random, &tally, row_count);
+        let result = row_compared::compare(&mut comparison.judge, &mut random, sets, &claim, &mut tally);
+        differences += report(RowClaim::new(sets, &claim).bytes(), result);
+    }
+    println!("row claims made at random, from seed {seed}:");
     println!("{tally}");
     println!("{:.1} s, {differences} differences", begin.elapsed().as_secs_f64());
     if differences == 0 { ExitCode::SUCCESS } else { ExitCode::FAILURE }
@@ -76,9 +90,9 @@ fn draw(random: &mut Random, judge: &mut Judge, tally: &Tally, count: usize) -> 
 }
 
 /// Prints a difference; how many there are.
-fn report(claim: &Claim, result: Result<(), String>) -> usize {
+fn report(claim: &[u8], result: Result<(), String>) -> usize {
     let Err(difference) = result else { return 0 };
-    let hex: String = claim.bytes().iter().map(|byte| format!("{byte:02x}")).collect();
+    let hex: String = claim.iter().map(|byte| format!("{byte:02x}")).collect();
     println!("DIFFERENCE {hex}: {difference}");
     1
 }

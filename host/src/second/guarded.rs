@@ -1,9 +1,12 @@
-//! The call with guard words around everything that it is lent.
+//! The calls with guard words around everything that they are lent.
 
-use super::widths;
-use crate::call::{Verdict, call};
-use crate::memory::floor;
+use std::fmt::Debug;
+
+use super::{row_widths, widths};
+use crate::call::{RowVerdict, Verdict, call, call_row};
+use crate::memory::{floor, row_floor};
 use crate::part::Part;
+use crate::row_part::RowPart;
 
 /// How many guard words stand before and behind a lent slice, and what they hold.
 const GUARDS: usize = 8;
@@ -38,7 +41,68 @@ impl Lent {
     }
 }
 
-/// Holds the call to its promise about memory, on any bytes.
+/// A call that is lent out and work words, and its answers.
+trait Lending {
+    type Told: Copy + PartialEq + Debug;
+    const FEW: Self::Told;
+
+    fn call(claim: &[u8], most: u32, out: &mut [u32], work: &mut [u32]) -> Self::Told;
+    fn floor(claim: &[u8], most: u32) -> u128;
+
+    /// The lengths of the two first words, where they are the answer.
+    fn both(told: Self::Told) -> Option<(usize, usize)>;
+    fn out_full(a: usize, b: usize) -> Self::Told;
+}
+
+/// The call on claims.
+struct OnClaims;
+
+impl Lending for OnClaims {
+    type Told = Verdict;
+    const FEW: Verdict = Verdict::Few;
+
+    fn call(claim: &[u8], most: u32, out: &mut [u32], work: &mut [u32]) -> Verdict {
+        call(claim, most, out, work)
+    }
+
+    fn floor(claim: &[u8], most: u32) -> u128 {
+        floor(claim, most)
+    }
+
+    fn both(told: Verdict) -> Option<(usize, usize)> {
+        if let Verdict::Both(a, b) = told { Some((a, b)) } else { None }
+    }
+
+    fn out_full(a: usize, b: usize) -> Verdict {
+        Verdict::OutFull(a, b)
+    }
+}
+
+/// The call on row claims.
+struct OnRows;
+
+impl Lending for OnRows {
+    type Told = RowVerdict;
+    const FEW: RowVerdict = RowVerdict::Few;
+
+    fn call(claim: &[u8], most: u32, out: &mut [u32], work: &mut [u32]) -> RowVerdict {
+        call_row(claim, most, out, work)
+    }
+
+    fn floor(claim: &[u8], most: u32) -> u128 {
+        row_floor(claim, most)
+    }
+
+    fn both(told: RowVerdict) -> Option<(usize, usize)> {
+        if let RowVerdict::Both(a, b) = told { Some((a, b)) } else { None }
+    }
+
+    fn out_full(a: usize, b: usize) -> RowVerdict {
+        RowVerdict::OutFull(a, b)
+    }
+}
+
+/// Holds the calls to their promise about memory, on any bytes.
 #[derive(Default)]
 pub struct Guarded {
     out: Lent,
@@ -47,13 +111,82 @@ pub struct Guarded {
 }
 
 impl Guarded {
+    /// The call on a claim, or on what is none: the floor is that of the claim's parts, *no claim* exactly of what is none, and
+    /// everything that is said about memory (`promised`). Returns the answer.
+    pub fn check(&mut self, claim: &[u8], most: u32, more: usize) -> Result<Verdict, String> {
+        widths::compare(claim, most)?;
+        widths::compare(claim, u32::MAX)?;
+        let verdict = self.promised::<OnClaims>(claim, most, more)?;
+        let is_claim = Part::read(claim).is_some();
+        if is_claim == (verdict == Verdict::NoClaim) || (is_claim && most == 0 && verdict != Verdict::Many) {
+            return Err(format!("{verdict:?}, and it is a claim: {is_claim}"));
+        }
+        Ok(verdict)
+    }
+
+    /// The same of the call on a row claim: of twelve sets there is one too many, and one that is read as too long a claim is too long.
+    pub fn check_row(&mut self, claim: &[u8], most: u32, more: usize) -> Result<RowVerdict, String> {
+        row_widths::compare(claim, most)?;
+        row_widths::compare(claim, u32::MAX)?;
+        let verdict = self.promised::<OnRows>(claim, most, more)?;
+        let expected = match RowPart::read(claim) {
+            None => Some(RowVerdict::NoRowClaim),
+            Some((12, _)) => Some(RowVerdict::TooManySets),
+            Some((sets, part)) if row_widths::bytes_read(&part, sets) > row_widths::LIMIT => Some(RowVerdict::TooLong),
+            Some(_) if most == 0 => Some(RowVerdict::Many),
+            Some(_) => None,
+        };
+        let refusals = [RowVerdict::NoRowClaim, RowVerdict::TooManySets, RowVerdict::TooLong];
+        match expected {
+            Some(expected) if expected != verdict => Err(format!("{verdict:?}, expected {expected:?}")),
+            None if refusals.contains(&verdict) => Err(format!("{verdict:?} of a row claim")),
+            _ => Ok(verdict),
+        }
+    }
+
+    /// Everything that a contract says about memory: with work of the floor and with more the same answer, with one word less *few*;
+    /// with out of every length around the needed one the two words or their lengths; nothing else written.
+    fn promised<C: Lending>(&mut self, claim: &[u8], most: u32, more: usize) -> Result<C::Told, String> {
+        let words = C::floor(claim, most) as usize;
+        let room = 2 * most as usize;
+        let (told, written) = self.call::<C>(claim, most, room, words)?;
+        let used = C::both(told).map_or(0, |(a, b)| a + b);
+        if told == C::FEW || used > room {
+            return Err(format!("{told:?} with all that is asked for"));
+        }
+        if written[used..].iter().any(|word| *word != JUNK) {
+            return Err("out was changed where no word is".to_string());
+        }
+        if let Some(less) = words.checked_sub(1) {
+            self.expect::<C>(claim, most, (room, less), C::FEW, &[])?;
+        }
+        self.expect::<C>(claim, most, (room, words + more), told, &written[..used])?;
+        if let Some((a, b)) = C::both(told) {
+            for out in used.saturating_sub(2)..used {
+                self.expect::<C>(claim, most, (out, words), C::out_full(a, b), &[])?;
+            }
+            for out in used..used + 2 {
+                self.expect::<C>(claim, most, (out, words), told, &written[..used])?;
+            }
+        } else {
+            self.expect::<C>(claim, most, (0, words), told, &[])?;
+        }
+        Ok(told)
+    }
+
     /// One call. What it wrote into `out`, with the guards looked at.
-    fn call(&mut self, claim: &[u8], most: u32, out: usize, work: usize) -> Result<(Verdict, Vec<u32>), String> {
+    fn call<C: Lending>(
+        &mut self,
+        claim: &[u8],
+        most: u32,
+        out: usize,
+        work: usize,
+    ) -> Result<(C::Told, Vec<u32>), String> {
         self.calls += 1;
         let lent = self.out.lend(out);
         lent.fill(JUNK);
         let before = claim.to_vec();
-        let verdict = call(claim, most, lent, self.work.lend(work));
+        let told = C::call(claim, most, lent, self.work.lend(work));
         let written = self.out.words[GUARDS..GUARDS + out].to_vec();
         if before != claim {
             return Err("the claim's bytes were changed".to_string());
@@ -61,60 +194,23 @@ impl Guarded {
         if !self.out.is_whole(out) || !self.work.is_whole(work) {
             return Err(format!("a guard word was changed, with {out} out and {work} work words"));
         }
-        Ok((verdict, written))
+        Ok((told, written))
     }
 
-    /// Everything that the contract says about memory, on one claim or what is none: the floor is that of the claim's parts;
-    /// with work of the floor and with more the same answer, with one word less *few*; with out of every length around the
-    /// needed one the two words or their lengths; nothing else written. Returns the answer.
-    pub fn check(&mut self, claim: &[u8], most: u32, more: usize) -> Result<Verdict, String> {
-        widths::compare(claim, most)?;
-        widths::compare(claim, u32::MAX)?;
-        let words = floor(claim, most) as usize;
-        let room = 2 * most as usize;
-        let (verdict, written) = self.call(claim, most, room, words)?;
-        let used = match verdict {
-            Verdict::Both(a, b) => a + b,
-            Verdict::Few | Verdict::OutFull(..) => return Err(format!("{verdict:?} with all that is asked for")),
-            _ => 0,
-        };
-        if written[used..].iter().any(|word| *word != JUNK) {
-            return Err("out was changed where no word is".to_string());
-        }
-        let is_claim = Part::read(claim).is_some();
-        if is_claim == (verdict == Verdict::NoClaim) || (is_claim && most == 0 && verdict != Verdict::Many) {
-            return Err(format!("{verdict:?}, and it is a claim: {is_claim}"));
-        }
-        self.expect(claim, most, room, words - 1, Verdict::Few, &[])?;
-        self.expect(claim, most, room, words + more, verdict, &written[..used])?;
-        if let Verdict::Both(a, b) = verdict {
-            for out in used.saturating_sub(2)..used {
-                self.expect(claim, most, out, words, Verdict::OutFull(a, b), &[])?;
-            }
-            for out in used..used + 2 {
-                self.expect(claim, most, out, words, verdict, &written[..used])?;
-            }
-        } else {
-            self.expect(claim, most, 0, words, verdict, &[])?;
-        }
-        Ok(verdict)
-    }
-
-    /// One call that must say this, and write exactly this.
-    fn expect(
+    /// One call, lent so many out and work words, that must say this, and write exactly this.
+    fn expect<C: Lending>(
         &mut self,
         claim: &[u8],
         most: u32,
-        out: usize,
-        work: usize,
-        said: Verdict,
+        (out, work): (usize, usize),
+        said: C::Told,
         words: &[u32],
     ) -> Result<(), String> {
-        let (verdict, written) = self.call(claim, most, out, work)?;
+        let (told, written) = self.call::<C>(claim, most, out, work)?;
         let (front, rest) = written.split_at(words.len());
-        if verdict != said || front != words || rest.iter().any(|word| *word != JUNK) {
+        if told != said || front != words || rest.iter().any(|word| *word != JUNK) {
             return Err(format!(
-                "{verdict:?} {written:?} with {out} out and {work} work words, expected {said:?} {words:?}"
+                "{told:?} {written:?} with {out} out and {work} work words, expected {said:?} {words:?}"
             ));
         }
         Ok(())

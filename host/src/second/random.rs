@@ -40,12 +40,17 @@ impl Random {
 
     /// A claim of `sets` sets as one of `of`, of which it mentions as many as before, any of them in any order.
     pub fn among(&mut self, of: u8, sets: u8, claim: &Part) -> Part {
+        claim.renamed(&self.numbers(of, sets))
+    }
+
+    /// The numbers below `of`, of which the first `sets` are any of them in any order.
+    pub(super) fn numbers(&mut self, of: u8, sets: u8) -> Vec<u8> {
         let mut numbers: Vec<u8> = (0..of).collect();
         for i in 0..usize::from(sets) {
             let other = i + self.below(numbers.len() - i);
             numbers.swap(i, other);
         }
-        claim.renamed(&numbers)
+        numbers
     }
 
     /// The same of so many sets that there are up to twelve: how many, and the claim.
@@ -74,11 +79,11 @@ impl Random {
     }
 
     /// The number of a set.
-    fn set(&mut self, sets: u8) -> u8 {
+    pub(super) fn set(&mut self, sets: u8) -> u8 {
         self.below(usize::from(sets)) as u8
     }
 
-    fn sign(&mut self, sets: u8) -> Part {
+    pub(super) fn sign(&mut self, sets: u8) -> Part {
         let (x, y) = (self.set(sets), self.set(sets));
         match self.below(4) {
             0 => within(x, y),
@@ -89,7 +94,7 @@ impl Random {
     }
 
     /// A sign without parts; one in three counts, mostly by 2 to 4, now and then by up to 16.
-    fn counting_sign(&mut self, sets: u8) -> Part {
+    pub(super) fn counting_sign(&mut self, sets: u8) -> Part {
         if !self.one_in(3) {
             return self.sign(sets);
         }
