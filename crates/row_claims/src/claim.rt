@@ -12,8 +12,8 @@ pub const MOST_SETS: u8 = 12;
 /// So many bytes a row claim may have at most, with the one that says how many sets it is about.
 pub const MOST_BYTES: usize = 1024;
 
-// The number of sets that the bytes begin with, and the bytes behind it, if they may be a row claim
-// by their number and that of the sets.
+/// The number of sets that the bytes begin with, and the bytes behind it, unless there are too many
+/// bytes for a row claim, no sets or too many of them.
 pub fn opened(bytes: &[u8]) -> Option<(u8, &[u8])>
     ensures { MatchOption result (IsRowClaim bytes.now → ⊥) (λ p. Opens bytes.now p.0 p.1.now) }
 {

@@ -15,7 +15,8 @@ pub enum RowSign {
     Some(u8),
 }
 
-/// The sign that the bytes begin with, and the bytes behind it and its sets.
+/// The sign that the bytes begin with, and the bytes behind it and its sets; none if they begin with
+/// no sign or end before its last set.
 pub fn read_sign(bytes: &[u8]) -> Option<(RowSign, &[u8])>
     ensures { MatchOption result ((g : RowSign) (t : List ℕ) → head g ++ t ≢ bytes.now) (λ p. head p.0 ++ p.1.now ≡ bytes.now) }
 {

@@ -89,10 +89,18 @@ pub struct Predicate {
     pub body: Expr,
 }
 
-// What stands in a text up to a semicolon.
+/// The row of which a text speaks: the names of the set of its places and of its last place.
+#[derive(Drop)]
+pub struct Row {
+    pub places: Name,
+    pub last: Name,
+}
+
+/// What stands in a text up to a semicolon: names that are declared, the row of which is spoken from here on, a predicate, what is assumed, what is claimed.
 #[derive(Drop)]
 pub enum Item {
     Free(Sort, Vec<Name>),
+    Row(Row),
     Predicate(Predicate),
     Assert(Expr),
     Formula(Expr),
