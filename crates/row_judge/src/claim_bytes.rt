@@ -1,5 +1,5 @@
 // The bytes of a claim that is being written, at most as many as a claim may have.
-ghost use Rattle.std.specs.Prelude.{◌≡◌, ℕ, ◌+◌, ◌<◌, ◌≤◌, List, [], ◌++◌, length, take, IfSome, MatchOption};
+ghost use Rattle.std.specs.Prelude.{◌≡◌, ℕ, ◌+◌, ◌<◌, ◌≤◌, List, [], ◌++◌, length, take, IfSome, IfNone, MatchOption};
 
 use std::marker::Model;
 
@@ -35,6 +35,7 @@ impl ClaimBytes {
     pub fn push(&mut self, bytes: &[u8]) -> Option<()>
         ensures put { MatchOption result (1024 < length self.old + length bytes.now) (λ _. self.new ≡ self.old ++ bytes.now) }
         ensures few { IfSome result (λ _. length self.new ≤ 1024) }
+        ensures stays { IfNone result (self.new ≡ self.old) }
     {
         if MOST_BYTES - self.len < bytes.len() {
             return None;
