@@ -22,7 +22,7 @@ returns-in-Some c =
     let lines : string_bytes c.in_ok-lines.lines ≡ before a names (names_after names) =
     c.in_ok-lines.ensures ∙ ap (λ (l : List (List ℕ)). before a l (map (λ n. string_bytes n) c.deref-2.result.now)) now ∙ ap (λ (l : List (List ℕ)). before a names l) after in
     let bytes : string_bytes c.in_ok-composed.composed.text ≡ declared a names (names_after names) formula =
-    c.in_ok-composed.ensures ∙ ap (λ (t : List ℕ). t ++ (formula ++ codes "\n;\n")) lines in
+    c.in_ok-composed.ensures ∙ ap (λ (t : List ℕ). t ++ formula ++ codes "\n;\n") lines in
     let asked : AreOne a c.deref-3.result.now (map (λ n. string_bytes n) c.deref-4.result.now) (map (λ n. string_bytes n) c.deref-5.result.now) = OnTrue_at c.if-are_one.true c.are_one.ensures in
     let asked_now : AreOne a c.deref-3.result.now names (map (λ n. string_bytes n) c.deref-5.result.now) =
     subst (λ (l : List (List ℕ)). AreOne a c.deref-3.result.now l (map (λ n. string_bytes n) c.deref-5.result.now)) (ap (λ l. map (λ n. string_bytes n) l) c.deref-4.ensures.value ∙ c.in_ok-now.ensures) asked in
