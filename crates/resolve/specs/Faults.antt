@@ -14,8 +14,9 @@ use Rattle.trees.specs.declared.tree.ExprKind.{ExprKind, Listed, Bound, Call, Co
 use Rattle.trees.specs.declared.tree.ExprKind.TheVariants.{True, False, Empty, Number, Named, Listed', Unary', Binary', Bound', Call', Count'}
 use Rattle.trees.specs.declared.tree.Parameter.{Parameter}
 use Rattle.trees.specs.declared.tree.Predicate.{Predicate}
+use Rattle.trees.specs.declared.tree.Row.{Row}
 use Rattle.trees.specs.declared.tree.Item.{Item}
-use Rattle.trees.specs.declared.tree.Item.TheVariants.{Free, Predicate as Defined, Assert, Formula as Claimed}
+use Rattle.trees.specs.declared.tree.Item.TheVariants.{Free, Row as Stands, Predicate as Defined, Assert, Formula as Claimed}
 use Rattle.resolve.specs.declared.fault.Class.{Class}
 use Rattle.resolve.specs.declared.fault.Class.TheVariants.{Formula, Place, Set}
 use Rattle.resolve.specs.declared.fault.Fault.{Fault}
@@ -181,10 +182,19 @@ abbrev pub NamedAgain : Sort → List Name → Signature → Fault → Type 0
 NamedAgain sort [] k f = ⊥
 NamedAgain sort (x ∷ xs) k f = (IsSome (sort_of k (string_bytes x.text)) × f ≡ Again x.span) ⊎ NamedAgain sort xs (named (string_bytes x.text) sort k) f
 
+-- the names of the row's places and of its last place are known from it on
+abbrev pub with_row : Row → Signature → Signature
+with_row r k = named (string_bytes r.last.text) OfPlace (named (string_bytes r.places.text) OfSet k)
+
+-- one of them is known already
+abbrev pub RowAgain : Row → Signature → Fault → Type 0
+RowAgain r k f = NamedAgain OfSet (r.places ∷ []) k f ⊎ NamedAgain OfPlace (r.last ∷ []) (named (string_bytes r.places.text) OfSet k) f
+
 -- one of the items has this fault, where those before it are known
 abbrev pub FaultyText : List Item → Signature → Fault → Type 0
 FaultyText [] k f = ⊥
 FaultyText (Free sort names ∷ items) k f = NamedAgain sort names.items k f ⊎ FaultyText items (with_names sort names.items k) f
+FaultyText (Stands r ∷ items) k f = RowAgain r k f ⊎ FaultyText items (with_row r k) f
 FaultyText (Defined p ∷ items) k f =
     (IsSome (predicate_of k (string_bytes p.name.text)) × f ≡ Again p.name.span)
     ⊎ (Faulty (with_parameters p.parameters.items k) Formula p.body f ⊎ FaultyText items (defined p k) f)

@@ -1,5 +1,5 @@
 -- What a text says: which place or set a term is, when a formula holds, what is assumed and what is claimed.
-use Rattle.std.specs.Prelude.{◌≡◌, ℕ, suc, ◌+◌, ◌*◌, ◌-◌, ◌<◌, ◌≤◌, Bool, true, cond, ◌&&◌, ◌||◌, not, ◌⊎◌, List, [], ◌∷◌, string_bytes}
+use Rattle.std.specs.Prelude.{◌≡◌, ℕ, suc, ◌+◌, ◌*◌, ◌-◌, ◌<◌, ◌≤◌, Bool, true, cond, ◌&&◌, ◌||◌, not, ◌⊎◌, List, [], ◌∷◌, Option, Some, None, string_bytes}
 use Rattle.std.specs.Str.{bytes_eq}
 use Rattle.claims.specs.Claims.{has}
 use Rattle.claims.specs.Places.{one}
@@ -9,7 +9,7 @@ use Rattle.trees.specs.declared.tree.Name.{Name}
 use Rattle.trees.specs.declared.tree.Sort.{Sort}
 use Rattle.trees.specs.declared.tree.Sort.TheVariants.{Place, Set}
 use Rattle.trees.specs.declared.tree.Quantifier.{Quantifier}
-use Rattle.trees.specs.declared.tree.Quantifier.TheVariants.{Some, All}
+use Rattle.trees.specs.declared.tree.Quantifier.TheVariants as quantifier
 use Rattle.trees.specs.declared.tree.Unary.TheVariants.{Not, Min, Max, IsEmpty}
 use Rattle.trees.specs.declared.tree.Binary.TheVariants.{Iff, Implies, Or, And, In, NotIn, Sub, Equal, Differs, Less, AtMost, Greater, AtLeast, Union, Inter, Without, Plus, Minus}
 use Rattle.trees.specs.declared.tree.ExprKind.{ExprKind, Row_of-ExprKind-Listed-0-2 as Exprs, end_of-ExprKind-Listed-0-2 as end, more_of-ExprKind-Listed-0-2 as more}
@@ -17,7 +17,8 @@ use Rattle.trees.specs.declared.tree.ExprKind.TheVariants.{True, Empty, Number, 
 use Rattle.trees.specs.declared.tree.Parameter.{Parameter}
 use Rattle.trees.specs.declared.tree.Predicate.{Predicate}
 use Rattle.trees.specs.declared.tree.Item.{Item}
-use Rattle.trees.specs.declared.tree.Item.TheVariants.{Free, Predicate as defined, Assert, Formula}
+use Rattle.trees.specs.declared.tree.Row.{Row as RowNames}
+use Rattle.trees.specs.declared.tree.Item.TheVariants.{Free, Row, Predicate as defined, Assert, Formula}
 
 -- a place, a finite set of places, or neither: a name that is not declared, an expression that is no term
 pub data Value : Type 0 where
@@ -40,17 +41,22 @@ IsSet (place i) = ⊥
 IsSet (set u) = Unit {0}
 IsSet none = ⊥
 
--- what the names in scope stand for, and what the predicates in scope say of their arguments
+-- what the names in scope stand for, what the predicates in scope say of their arguments, and the places of the row, where one is spoken of
 pub record Context : Type 1 where
   pub value : List ℕ → Value
   pub says : List ℕ → List Value → Type 0
+  pub row : Option (List Bool)
 
 abbrev pub nothing : Context
-nothing = record { value = λ y. none; says = λ y vs. ⊥ }
+nothing = record { value = λ y. none; says = λ y vs. ⊥; row = None }
 
 -- from here on the name stands for v
 abbrev pub bind : Name → Value → Context → Context
-bind x v s = record { value = λ y. cond (bytes_eq (string_bytes x.text) y) v (s.value y); says = s.says }
+bind x v s = record { value = λ y. cond (bytes_eq (string_bytes x.text) y) v (s.value y); says = s.says; row = s.row }
+
+-- from here on these are the places of the row
+abbrev pub with_row : List Bool → Context → Context
+with_row row s = record { value = s.value; says = s.says; row = Some row }
 
 abbrev pub each_place : List Value → List Bool
 each_place [] = []
@@ -82,12 +88,34 @@ Same (place i) (place j) = i ≡ j
 Same (set u) (set w) = (i : ℕ) → has u i ≡ has w i
 Same _ _ = ⊥
 
+-- each place of the set is one of the row
+abbrev pub Inside : List Bool → List Bool → Type 0
+Inside row u = (i : ℕ) → has u i ≡ true → has row i ≡ true
+
+-- P is true of some place, of each; where a row is spoken of, of its places
+abbrev pub SomePlace : Option (List Bool) → (ℕ → Type 0) → Type 0
+SomePlace None P = (i : ℕ) × P i
+SomePlace (Some row) P = (i : ℕ) × (has row i ≡ true) × P i
+
+abbrev pub EachPlace : Option (List Bool) → (ℕ → Type 0) → Type 0
+EachPlace None P = (i : ℕ) → P i
+EachPlace (Some row) P = (i : ℕ) → has row i ≡ true → P i
+
+-- and of some set, of each; where a row is spoken of, of sets of its places
+abbrev pub SomeSet : Option (List Bool) → (List Bool → Type 0) → Type 0
+SomeSet None P = (u : List Bool) × P u
+SomeSet (Some row) P = (u : List Bool) × Inside row u × P u
+
+abbrev pub EachSet : Option (List Bool) → (List Bool → Type 0) → Type 0
+EachSet None P = (u : List Bool) → P u
+EachSet (Some row) P = (u : List Bool) → Inside row u → P u
+
 abbrev pub quantified : Quantifier → Sort → List Name → (Context → Type 0) → Context → Type 0
 quantified q sort [] f s = f s
-quantified Some Place (x ∷ xs) f s = (i : ℕ) × quantified Some Place xs f (bind x (place i) s)
-quantified Some Set (x ∷ xs) f s = (u : List Bool) × quantified Some Set xs f (bind x (set u) s)
-quantified All Place (x ∷ xs) f s = (i : ℕ) → quantified All Place xs f (bind x (place i) s)
-quantified All Set (x ∷ xs) f s = (u : List Bool) → quantified All Set xs f (bind x (set u) s)
+quantified quantifier.Some Place (x ∷ xs) f s = SomePlace s.row (λ i. quantified quantifier.Some Place xs f (bind x (place i) s))
+quantified quantifier.Some Set (x ∷ xs) f s = SomeSet s.row (λ u. quantified quantifier.Some Set xs f (bind x (set u) s))
+quantified quantifier.All Place (x ∷ xs) f s = EachPlace s.row (λ i. quantified quantifier.All Place xs f (bind x (place i) s))
+quantified quantifier.All Set (x ∷ xs) f s = EachSet s.row (λ u. quantified quantifier.All Set xs f (bind x (set u) s))
 
 -- when a formula holds
 abbrev pub holds : ExprKind → Context → Type 0
@@ -126,7 +154,7 @@ either true p q = p
 either _ p q = q
 
 abbrev pub define : Predicate → Context → Context
-define p s = record { value = s.value; says = λ y vs. either (bytes_eq (string_bytes p.name.text) y) (says_of p s vs) (s.says y vs) }
+define p s = record { value = s.value; says = λ y vs. either (bytes_eq (string_bytes p.name.text) y) (says_of p s vs) (s.says y vs); row = s.row }
 
 -- declared names stand for the places and sets that e gives them, numbered from n on in the order of declaration
 abbrev pub given : Sort → ℕ → Env → Value
@@ -141,6 +169,10 @@ abbrev pub count : ℕ → List Name → ℕ
 count n [] = n
 count n (x ∷ xs) = count (suc n) xs
 
+-- from here on a row is spoken of: the set of its places, which is declared with the number n, and its last place, on the row without places place 0
+abbrev pub in_row : RowNames → ℕ → Env → Context → Context
+in_row r n e s = with_row (e.groups n) (bind r.last (place (highest (e.groups n))) (bind r.places (set (e.groups n)) s))
+
 -- what is assumed of the declared names, and what is claimed
 pub record Text : Type 1 where
   pub assumed : Type 0
@@ -149,6 +181,7 @@ pub record Text : Type 1 where
 abbrev pub text_from : List Item → ℕ → Env → Context → Text
 text_from [] n e s = record { assumed = Unit {0}; claimed = Unit {0} }
 text_from (Free sort names ∷ items) n e s = text_from items (count n names.items) e (declare sort names.items n e s)
+text_from (Row r ∷ items) n e s = text_from items (suc n) e (in_row r n e s)
 text_from (defined p ∷ items) n e s = text_from items n e (define p s)
 text_from (Assert a ∷ items) n e s = let rest = text_from items n e s in record { assumed = holds a.kind s × rest.assumed; claimed = rest.claimed }
 text_from (Formula a ∷ items) n e s = let rest = text_from items n e s in record { assumed = rest.assumed; claimed = holds a.kind s × rest.claimed }

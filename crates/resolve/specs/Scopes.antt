@@ -1,16 +1,17 @@
 -- What is known where a part of a text is read, as the code holds it: names with the terms that they stand for, and predicates.
-use Rattle.std.specs.Prelude.{◌≡◌, ℕ, ◌<◌, Bool, List, string_bytes}
+use Rattle.std.specs.Prelude.{◌≡◌, ℕ, ◌<◌, Bool, true, List, Option, Some, None, string_bytes}
+use Rattle.claims.specs.Claims.{has}
 use Rattle.formulas.specs.Meaning.{Env, value, members, with_place, with_group}
-use Rattle.resolve.specs.Says.{Value, place, set, Context, nothing, bind, define}
+use Rattle.resolve.specs.Says.{Value, place, set, Context, nothing, bind, with_row, define, Inside, SomePlace, EachPlace, SomeSet, EachSet}
 use Rattle.resolve.specs.declared.scope.Term.{Term}
 use Rattle.resolve.specs.declared.scope.Term.TheVariants.{Place, Set}
 use Rattle.trees.specs.declared.tree.Sort.{Sort}
 use Rattle.trees.specs.declared.tree.Sort.TheVariants.{Place as OfPlace, Set as OfSet}
 use Rattle.trees.specs.declared.tree.Quantifier.{Quantifier}
-use Rattle.trees.specs.declared.tree.Quantifier.TheVariants.{Some, All}
+use Rattle.trees.specs.declared.tree.Quantifier.TheVariants as quantifier
 use Rattle.resolve.specs.Faults.{Signature, outermost, named, defined}
 use Rattle.resolve.specs.declared.scope.Scope.{Scope}
-use Rattle.resolve.specs.declared.scope.Scope.TheVariants.{Outermost, Named', Defined'}
+use Rattle.resolve.specs.declared.scope.Scope.TheVariants.{Outermost, Named', Row', Defined'}
 
 -- what a term over numbers stands for
 abbrev pub meant : Term → Env → Value
@@ -20,7 +21,19 @@ meant (Set t) e = set (members t.value e)
 abbrev pub context : Scope → Env → Context
 context Outermost e = nothing
 context (Named' x t _ outer) e = bind x.now (meant t.now e) (context outer e)
+context (Row' n _ outer) e = with_row (e.groups n) (context outer e)
 context (Defined' p _ outer) e = define p.now (context outer e)
+
+-- the number of the row, where one is spoken of, and its places
+abbrev pub row_of : Scope → Option ℕ
+row_of Outermost = None
+row_of (Named' x t _ outer) = row_of outer
+row_of (Row' n _ outer) = Some n
+row_of (Defined' p _ outer) = row_of outer
+
+abbrev pub places_of : Option ℕ → Env → Option (List Bool)
+places_of None e = None
+places_of (Some n) e = Some (e.groups n)
 
 abbrev pub term_sort : Term → Sort
 term_sort (Place t) = OfPlace
@@ -30,6 +43,7 @@ term_sort (Set t) = OfSet
 abbrev pub signature : Scope → Signature
 signature Outermost = outermost
 signature (Named' x t _ outer) = named (string_bytes x.now.text) (term_sort t.now) (signature outer)
+signature (Row' n _ outer) = signature outer
 signature (Defined' p _ outer) = defined p.now (signature outer)
 
 -- the same places and sets for the names with numbers below n
@@ -43,11 +57,26 @@ Settled n t = (e f : Env) → Agree n e f → meant t e ≡ meant t f
 abbrev pub Steady : ℕ → Scope → Type 0
 Steady n Outermost = Unit {0}
 Steady n (Named' x t _ outer) = Settled n t.now × Steady n outer
+Steady n (Row' m _ outer) = (m < n) × Steady n outer
 Steady n (Defined' p _ outer) = Steady n outer
 
--- P is true whatever, or for something that, the name with the number n stands for
-abbrev pub OverAll : Quantifier → Sort → ℕ → (Env → Type 0) → Env → Type 0
-OverAll Some OfPlace n P e = (i : ℕ) × P (with_place e n i)
-OverAll Some OfSet n P e = (u : List Bool) × P (with_group e n u)
-OverAll All OfPlace n P e = (i : ℕ) → P (with_place e n i)
-OverAll All OfSet n P e = (u : List Bool) → P (with_group e n u)
+-- the row's number, where one is spoken of, is below n
+abbrev pub IsBelow : ℕ → Option ℕ → Type 0
+IsBelow n None = Unit {0}
+IsBelow n (Some m) = m < n
+
+-- what the name with the number n stands for is the row's, whose number is r
+abbrev pub Bound : Sort → ℕ → ℕ → Env → Type 0
+Bound OfPlace n r e = has (e.groups r) (e.places n) ≡ true
+Bound OfSet n r e = Inside (e.groups r) (e.groups n)
+
+abbrev pub WhereBound : Quantifier → Type 0 → Type 0 → Type 0
+WhereBound quantifier.Some B P = B × P
+WhereBound quantifier.All B P = B → P
+
+-- P is true for something that the name with the number n stands for, or for all; where a row with a number is spoken of, for what is the row's
+abbrev pub OverAll : Quantifier → Sort → ℕ → Option ℕ → (Env → Type 0) → Env → Type 0
+OverAll quantifier.Some OfPlace n row P e = SomePlace (places_of row e) (λ i. P (with_place e n i))
+OverAll quantifier.Some OfSet n row P e = SomeSet (places_of row e) (λ u. P (with_group e n u))
+OverAll quantifier.All OfPlace n row P e = EachPlace (places_of row e) (λ i. P (with_place e n i))
+OverAll quantifier.All OfSet n row P e = EachSet (places_of row e) (λ u. P (with_group e n u))

@@ -1,26 +1,32 @@
 // What a text asks: its declared names, what is assumed of them, and what is claimed.
-ghost use Rattle.std.specs.Prelude.{◌≡◌, ℕ, ◌++◌, ◌↔◌, ◌⊎◌, map, IfOk, IfErr, OnOk};
+ghost use Rattle.std.specs.Prelude.{◌≡◌, ℕ, suc, ◌++◌, ◌∷◌, ◌↔◌, ◌⊎◌, map, IfOk, IfErr, OnOk};
 ghost use Rattle.formulas.specs.Meaning.{Env};
-ghost use Rattle.resolve.specs.Says.{declare, count};
-ghost use Rattle.resolve.specs.Scopes.{context, signature, Steady};
-ghost use Rattle.resolve.specs.Faults.{Faulty, FaultyText, NamedAgain, IsLimit, outermost, with_names, with_parameters};
+ghost use Rattle.formulas.specs.Sets.{highest};
+ghost use Rattle.resolve.specs.Kinds.{kind_of};
+ghost use Rattle.resolve.specs.Says.{declare, in_row, count, place};
+ghost use Rattle.resolve.specs.Scopes.{context, meant, signature, term_sort, Steady};
+ghost use Rattle.resolve.specs.declared.scope.Kind.TheVariants.{Row as OfRow};
+ghost use Rattle.trees.specs.declared.tree.Sort.TheVariants.{Place as OfPlace};
+ghost use Rattle.resolve.specs.Faults.{Faulty, FaultyText, RowAgain, with_row, NamedAgain, IsLimit, outermost, with_names, with_parameters};
 ghost use Rattle.resolve.specs.declared.fault.Class.TheVariants.{Formula as OfFormula};
 ghost use Rattle.resolve.specs.Asks.{Asks, AsksMore, Written, declared};
 
 use crate::fault::Fault;
-use crate::scope::{Free, Scope, defined, named};
+use crate::built::most;
+use crate::scope::{Free, Kind, Scope, Term, defined, is_in_row, named};
 use crate::statements::numbered;
 use crate::terms::{MOST_CALLS, MOST_PARTS, Resolver, inner};
-use formulas::formula::Formula;
-use std::alloc::Global;
+use formulas::formula::{Formula, Group};
+use std::alloc::{AllocError, Global};
 use trees::position::Span;
-use trees::tree::{Expr, Item, Name, Parameter, Sort};
+use trees::tree::{Expr, Item, Name, Parameter, Row, Sort};
 
-/// A formula of the text, as it stands there and as a formula over numbers.
+/// A formula of the text, as it stands there and as a formula over numbers, and whether a row is spoken of there.
 #[derive(Drop)]
 pub struct Stated<'a> {
     pub expr: &'a Expr,
     pub formula: Box<Formula>,
+    pub in_row: bool,
 }
 
 /// The names that a text declares, what it assumes of them and what it claims.
@@ -38,9 +44,19 @@ fn span_of(item: &Item) -> Span {
             Some(name) => name.span,
             None => Span { start: 0, end: 0 },
         },
+        Item::Row(row) => row.places.span,
         Item::Predicate(predicate) => predicate.name.span,
         Item::Assert(expr) | Item::Formula(expr) => expr.span,
     }
+}
+
+// The last place of the row, the set with that number.
+fn last_of(heap: Global, row: u32) -> Result<Term, AllocError>
+    ensures means { IfOk result (λ t. (e : Env) → meant t e ≡ place (highest (e.groups row))) }
+    ensures sorts { IfOk result (λ t. term_sort t ≡ OfPlace) }
+{
+    let places = Box::new(heap, Group::Named(row))?;
+    Ok(Term::Place(most(heap, places)?))
 }
 
 impl Resolver {
@@ -102,6 +118,7 @@ impl Resolver {
                     calls,
                 )
             }
+            Item::Row(row) => self.row(asked, row, rest, scope, level, calls),
             Item::Predicate(predicate) => {
                 if defined(scope, &predicate.name).is_some() {
                     return Err(Fault::Again(predicate.name.span));
@@ -114,15 +131,62 @@ impl Resolver {
             }
             Item::Assert(expr) => {
                 let formula = self.formula(expr, scope, level, calls)?;
-                asked.assumed.push(Stated { expr, formula })?;
+                asked.assumed.push(Stated {
+                    expr,
+                    formula,
+                    in_row: is_in_row(scope),
+                })?;
                 self.items(asked, rest, scope, level, calls)
             }
             Item::Formula(expr) => {
                 let formula = self.formula(expr, scope, level, calls)?;
-                asked.claimed.push(Stated { expr, formula })?;
+                asked.claimed.push(Stated {
+                    expr,
+                    formula,
+                    in_row: is_in_row(scope),
+                })?;
                 self.items(asked, rest, scope, level, calls)
             }
         }
+    }
+
+    // The row, whose places are the set with the next number, and what the items behind it ask.
+    #[cycle(asking)]
+    fn row<'a, 's>(
+        &mut self,
+        asked: &mut Asked<'a>,
+        row: &'a Row,
+        rest: &'a [Item],
+        scope: &'s Scope<'s>,
+        level: u32,
+        calls: u32,
+    ) -> Result<(), Fault>
+    where
+        'a: 's,
+        requires { Steady level scope.now }
+        ensures says { OnOk result (AsksMore asked.old asked.new ((row.now.places, OfRow) ∷ declared rest.now) (λ l m. Written rest.now (suc level) (λ e. in_row row.now level e (context scope.now e)) l m)) }
+        ensures faults { IfErr result (λ f. IsLimit f ⊎ (RowAgain row.now (signature scope.now) f ⊎ FaultyText rest.now (with_row row.now (signature scope.now)) f)) }
+    {
+        let calls = inner(calls, row.places.span)?;
+        if named(scope, &row.places).is_some() {
+            return Err(Fault::Again(row.places.span));
+        }
+        let Some(next) = level.checked_add(1) else {
+            return Err(Fault::Deep(row.places.span));
+        };
+        asked.free.push(Free {
+            name: &row.places,
+            kind: Kind::Row,
+        })?;
+        let places = numbered(self.heap, Sort::Set, level)?;
+        let with_places = Scope::Named(&row.places, &places, &*scope);
+        if named(&with_places, &row.last).is_some() {
+            return Err(Fault::Again(row.last.span));
+        }
+        let last = last_of(self.heap, level)?;
+        let with_last = Scope::Named(&row.last, &last, &with_places);
+        let inside = Scope::Row(level, &with_last);
+        self.items(asked, rest, &inside, next, calls)
     }
 
     // Declared names, each with the next number, and what the items behind them ask.
@@ -141,7 +205,7 @@ impl Resolver {
     where
         'a: 's,
         requires { Steady level scope.now }
-        ensures says { OnOk result (AsksMore asked.old asked.new (map (λ x. (x, sort)) names.now ++ declared rest.now) (λ l m. Written rest.now (count level names.now) (λ e. declare sort names.now level e (context scope.now e)) l m)) }
+        ensures says { OnOk result (AsksMore asked.old asked.new (map (λ x. (x, kind_of sort)) names.now ++ declared rest.now) (λ l m. Written rest.now (count level names.now) (λ e. declare sort names.now level e (context scope.now e)) l m)) }
         ensures faults { IfErr result (λ f. IsLimit f ⊎ (NamedAgain sort names.now (signature scope.now) f ⊎ FaultyText rest.now (with_names sort names.now (signature scope.now)) f)) }
     {
         let calls = inner(calls, span)?;
@@ -154,7 +218,10 @@ impl Resolver {
         let Some(next) = level.checked_add(1) else {
             return Err(Fault::Deep(name.span));
         };
-        asked.free.push(Free { name, sort })?;
+        asked.free.push(Free {
+            name,
+            kind: Kind::of(sort),
+        })?;
         let term = numbered(self.heap, sort, level)?;
         let inside = Scope::Named(name, &term, &*scope);
         self.names(asked, sort, others, rest, span, &inside, next, calls)

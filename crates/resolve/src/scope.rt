@@ -1,9 +1,10 @@
 // What names stand for where a part of a text is read: each name a term, each predicate itself and what was known where it is declared.
-ghost use Rattle.std.specs.Prelude.{◌≡◌, ℕ, List, string_bytes, IfSome, MatchOption, ◌↔◌};
+ghost use Rattle.std.specs.Prelude.{◌≡◌, ℕ, List, string_bytes, IfSome, MatchOption, ◌↔◌, is_some};
 ghost use Rattle.std.specs.Str.{bytes_eq};
 ghost use Rattle.formulas.specs.Meaning.{Env};
 ghost use Rattle.resolve.specs.Says.{Value, none, says_of};
-ghost use Rattle.resolve.specs.Scopes.{meant, context, Steady, term_sort, signature};
+ghost use Rattle.resolve.specs.Scopes.{meant, context, row_of, Steady, term_sort, signature};
+ghost use Rattle.resolve.specs.Kinds.{kind_of};
 ghost use Rattle.resolve.specs.Faults.{sort_of, predicate_of};
 
 use formulas::formula::{Group, Place};
@@ -16,11 +17,12 @@ pub enum Term {
     Set(Box<Group>),
 }
 
-/// The names and predicates that are known at a part of a text, the innermost first.
+/// The names and predicates that are known at a part of a text, the innermost first, and the number of the set that is the row, where one is spoken of.
 #[derive(Drop)]
 pub enum Scope<'s> {
     Outermost,
     Named(&'s Name, &'s Term, &'s Scope<'s>),
+    Row(u32, &'s Scope<'s>),
     Defined(&'s Predicate, &'s Scope<'s>),
 }
 
@@ -31,11 +33,31 @@ pub struct Known<'s> {
     pub scope: &'s Scope<'s>,
 }
 
+/// What a declared name stands for: a place, a set, or the set of the row's places.
+#[derive(Clone, Copy, Debug, PartialEq, Eq)]
+pub enum Kind {
+    Place,
+    Set,
+    Row,
+}
+
+impl Kind {
+    /// What a name of that sort stands for.
+    pub fn of(sort: Sort) -> Kind
+        ensures { result ≡ kind_of sort }
+    {
+        match sort {
+            Sort::Place => Kind::Place,
+            Sort::Set => Kind::Set,
+        }
+    }
+}
+
 /// A name that the text declares; its number is its index.
 #[derive(Clone, Copy)]
 pub struct Free<'a> {
     pub name: &'a Name,
-    pub sort: Sort,
+    pub kind: Kind,
 }
 
 /// Whether two names are spelled alike.
@@ -58,8 +80,28 @@ pub fn named<'s>(scope: &'s Scope<'s>, name: &Name) -> Option<&'s Term>
             }
             named(outer, name)
         }
+        Scope::Row(_, outer) => named(outer, name),
         Scope::Defined(_, outer) => named(outer, name),
     }
+}
+
+/// The number of the set that is the row, where one is spoken of.
+pub fn row_of(scope: &Scope<'_>) -> Option<u32>
+    ensures { result ≡ row_of scope.now }
+{
+    match scope {
+        Scope::Outermost => None,
+        Scope::Named(_, _, outer) => row_of(outer),
+        Scope::Row(number, _) => Some(*number),
+        Scope::Defined(_, outer) => row_of(outer),
+    }
+}
+
+/// Whether a row is spoken of.
+pub fn is_in_row(scope: &Scope<'_>) -> bool
+    ensures { (e : Env) → is_some (context scope.now e).row ≡ result }
+{
+    row_of(scope).is_some()
 }
 
 /// The predicate of a name, with the scope in which it is declared; nothing if it is not known.
@@ -71,6 +113,7 @@ pub fn defined<'s>(scope: &'s Scope<'s>, name: &Name) -> Option<Known<'s>>
     match scope {
         Scope::Outermost => None,
         Scope::Named(_, _, outer) => defined(outer, name),
+        Scope::Row(_, outer) => defined(outer, name),
         Scope::Defined(predicate, outer) => {
             if is_same(&predicate.name, name) {
                 return Some(Known {

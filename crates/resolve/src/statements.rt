@@ -7,9 +7,10 @@ ghost use Rattle.resolve.specs.Faults.{Faulty, IsLimit, Among, class_of_sort, wi
 ghost use Rattle.trees.specs.Tree.{Expr};
 ghost use Rattle.resolve.specs.declared.fault.Class.{Class};
 
-use crate::built::{and, every_place, every_set, implies, negation, or, some_place, some_set};
+use crate::bounds::over;
+use crate::built::{and, implies, negation, or};
 use crate::fault::Fault;
-use crate::scope::{Scope, Term, defined};
+use crate::scope::{Scope, Term, defined, row_of};
 use crate::terms::{Resolver, inner};
 use formulas::formula::{Formula, Group, Place};
 use std::alloc::{AllocError, Global};
@@ -24,24 +25,6 @@ pub fn numbered(heap: Global, sort: Sort, number: u32) -> Result<Term, AllocErro
     match sort {
         Sort::Place => Ok(Term::Place(Box::new(heap, Place::Named(number))?)),
         Sort::Set => Ok(Term::Set(Box::new(heap, Group::Named(number))?)),
-    }
-}
-
-// A formula of some place or set with a number, or of every one.
-fn over(
-    heap: Global,
-    quantifier: Quantifier,
-    sort: Sort,
-    number: u32,
-    formula: Box<Formula>,
-) -> Result<Box<Formula>, AllocError>
-    ensures { IfOk result (λ f. (e : Env) → Meaning f.value e ↔ OverAll quantifier sort number (λ z. Meaning formula.value z) e) }
-{
-    match (quantifier, sort) {
-        (Quantifier::Some, Sort::Place) => some_place(heap, number, formula),
-        (Quantifier::Some, Sort::Set) => some_set(heap, number, formula),
-        (Quantifier::All, Sort::Place) => every_place(heap, number, formula),
-        (Quantifier::All, Sort::Set) => every_set(heap, number, formula),
     }
 }
 
@@ -167,7 +150,14 @@ impl Resolver {
         let term = numbered(self.heap, sort, level)?;
         let inside = Scope::Named(first, &term, &*scope);
         let formula = self.bound(quantifier, sort, others, &*body, &inside, next, calls)?;
-        Ok(over(self.heap, quantifier, sort, level, formula)?)
+        Ok(over(
+            self.heap,
+            quantifier,
+            sort,
+            level,
+            row_of(scope),
+            formula,
+        )?)
     }
 
     // A predicate's body, in the scope of its declaration, its parameters standing for the arguments, which are read in the scope of the call.

@@ -1,9 +1,9 @@
 use Rattle.std.proofs.Common.{◌≡◌, inl, inr, refl, ◌-◌, suc, ◌∷◌, map, length, take, drop, ◌∙◌, sym, ap, arith, rules, subst, ◌↔◌, add-one}
 use Rattle.formulas.specs.Meaning.{Env, Meaning}
 use Rattle.resolve.specs.Says.{Context, Value, value, holds, quantified, bind, bind_all}
-use Rattle.resolve.specs.Scopes.{context, signature, Settled, Steady, OverAll}
+use Rattle.resolve.specs.Scopes.{context, row_of, signature, Settled, Steady, IsBelow, OverAll}
 use Rattle.resolve.proofs.Iff.{iff_trans, iff_sym, if_ok}
-use Rattle.resolve.proofs.ScopesLaws.{settled, steady_more, along, quantified_says}
+use Rattle.resolve.proofs.ScopesLaws.{settled, steady_more, row_below, along, quantified_says}
 use Rattle.resolve.proofs.ValuesLaws.{head_rest}
 use Rattle.resolve.proofs.RowsLaws.{call_says}
 use Rattle.trees.specs.Tree.{Expr}
@@ -27,7 +27,11 @@ bound-returns-clause-says t c = λ e.
     let parts = head_rest xs x (omega (arith, c.in-len1-up.len_at_least)) c.first-item.is in
     let inner = λ (f : Env). subst (λ v. Meaning c.in_ok-formula.formula.value f ↔ quantified c.args.quantifier c.args.sort rest F (bind x v (context s f))) (c.in_ok-term.ensures.means f) (c.in_ok-formula.ensures.says f) in
     let says = quantified_says c.args.quantifier c.args.sort c.args.level s x rest F (λ f. Meaning c.in_ok-formula.formula.value f) c.requires inner e in
-    iff_trans (c.in_ok-over.ensures e) (subst (λ l. OverAll c.args.quantifier c.args.sort c.args.level (λ f. Meaning c.in_ok-formula.formula.value f) e ↔ quantified c.args.quantifier c.args.sort l F (context s e)) (sym parts) says)
+    let over = subst (λ row. Meaning c.in_ok-over.field-0.value e ↔ OverAll c.args.quantifier c.args.sort c.args.level row (λ f. Meaning c.in_ok-formula.formula.value f) e) c.row_of.ensures (c.in_ok-over.ensures e) in
+    iff_trans over (subst (λ l. OverAll c.args.quantifier c.args.sort c.args.level (row_of s) (λ f. Meaning c.in_ok-formula.formula.value f) e ↔ quantified c.args.quantifier c.args.sort l F (context s e)) (sym parts) says)
+
+pub bound-over-requires : goal.bound-over-requires
+bound-over-requires t c = subst (λ row. IsBelow c.args.level row) (sym c.row_of.ensures) (row_below c.args.level c.args.scope.now c.requires)
 
 pub expanded-expanded-requires : goal.expanded-expanded-requires
 expanded-expanded-requires t c =

@@ -1,0 +1,2 @@
+// The call that judges row claims.
+#![tactic(auto)]
