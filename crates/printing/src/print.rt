@@ -1,15 +1,16 @@
 // Prints a tree as a text that is read as the same tree.
-ghost use Rattle.std.specs.Prelude.{◌≡◌, ◌∷◌, [], decimal, OnOk, IfOk, map, false, string_bytes};
+ghost use Rattle.std.specs.Prelude.{◌≡◌, ◌∷◌, ◌++◌, [], decimal, OnOk, IfOk, map, false, string_bytes};
 ghost use Rattle.tokens.specs.Spaced.{spaced};
 ghost use Rattle.syntax.specs.Plain.{names as all_names, written, list, open_, close, bar, tally, semicolon};
 ghost use Rattle.syntax.specs.Views.{names_of, view, view_all};
 ghost use Rattle.tokens.specs.declared.kind.Kind.TheVariants as kind;
 ghost use Rattle.tokens.specs.Words.{word};
 ghost use Rattle.syntax.specs.Items.{predicate as defined, view_parameters, view_item, view_items, sort_word, parameters as all_parameters, written_item, written_items};
+ghost use Rattle.syntax.specs.Rows.{is_rows, rows_words};
 ghost use Rattle.syntax.specs.Printed.{enclosed, within_parens, text, texts, text_item};
 ghost use Rattle.printing.specs.Writing.{Writes, is_all};
 
-use crate::signs::{left_of, level, quantifier_word, right_of, sign_word, sort_word};
+use crate::signs::{is_rows, left_of, level, quantifier_word, right_of, sign_word, sort_word};
 use crate::writer::Writer;
 use std::alloc::{AllocError, Global};
 use syntax::operators::{CLOSED, EXTREME, NOT};
@@ -198,6 +199,26 @@ fn put_formula(writer: &mut Writer, style: Style, formula: &Expr) -> Result<(), 
     writer.word(Kind::Semicolon, ";")
 }
 
+// What says that the text is about a row.
+fn put_row(writer: &mut Writer) -> Result<(), AllocError>
+    ensures { OnOk result (Writes writer.old writer.new (λ rest. rows_words ++ rest)) }
+{
+    writer.word(Kind::Name, "rows")?;
+    writer.word(Kind::Semicolon, ";")
+}
+
+// What is claimed: a formula that is the name `rows` alone stands in parentheses, since `rows;` is a row.
+fn put_claimed(writer: &mut Writer, style: Style, formula: &Expr) -> Result<(), AllocError>
+    ensures { OnOk result (Writes writer.old writer.new (λ rest. written (enclosed (is_rows (view formula.now.kind)) (text (is_all style) (view formula.now.kind))) (semicolon ∷ rest))) }
+{
+    if is_rows(formula) {
+        put_enclosed(writer, style, formula)?;
+        writer.word(Kind::Semicolon, ";")
+    } else {
+        put_formula(writer, style, formula)
+    }
+}
+
 fn put_predicate(writer: &mut Writer, style: Style, predicate: &Predicate) -> Result<(), AllocError>
     ensures { OnOk result (Writes writer.old writer.new (λ rest. written_item (text_item (is_all style) (defined (string_bytes predicate.now.name.text) (view_parameters predicate.now.parameters.items) (view predicate.now.body.kind))) rest)) }
 {
@@ -215,12 +236,13 @@ fn put_item(writer: &mut Writer, style: Style, item: &Item) -> Result<(), AllocE
 {
     match item {
         Item::Free(sort, names) => put_free(writer, *sort, names),
+        Item::Row(_) => put_row(writer),
         Item::Predicate(predicate) => put_predicate(writer, style, predicate),
         Item::Assert(formula) => {
             writer.word(Kind::Assert, "assert")?;
             put_formula(writer, style, formula)
         }
-        Item::Formula(formula) => put_formula(writer, style, formula),
+        Item::Formula(formula) => put_claimed(writer, style, formula),
     }
 }
 

@@ -4,6 +4,7 @@ ghost use Rattle.tokens.specs.Words.{word};
 ghost use Rattle.syntax.specs.Plain.{sign_of, quantifier_of};
 ghost use Rattle.syntax.specs.Items.{sort_word};
 ghost use Rattle.syntax.specs.Parsing.{level_of, right_of};
+ghost use Rattle.syntax.specs.Rows.{is_rows};
 ghost use Rattle.syntax.specs.Printed.{level, left_of};
 ghost use Rattle.syntax.specs.Views.{view};
 
@@ -56,6 +57,16 @@ pub fn sort_word(sort: Sort) -> (Kind, &'static str)
     match sort {
         Sort::Place => (Kind::Var1, "var1"),
         Sort::Set => (Kind::Var2, "var2"),
+    }
+}
+
+/// Whether an expression is the name `rows` alone.
+pub fn is_rows(expr: &Expr) -> bool
+    ensures { result ≡ is_rows (view expr.now.kind) }
+{
+    match &expr.kind {
+        ExprKind::Named(name) => name.text.as_bytes() == b"rows".as_slice(),
+        _ => false,
     }
 }
 

@@ -1,5 +1,5 @@
 -- Items that were written are read again.
-use Rattle.std.proofs.Common.{ℕ, zero, suc, ◌<◌, ◌≤◌, ◌≡◌, List, [], ◌∷◌, ◌++◌, false, Some, Ok, refl, sym, ap, ◌∙◌, arith, length, map, append_assoc, append-nil}
+use Rattle.std.proofs.Common.{ℕ, zero, suc, ◌<◌, ◌≤◌, ◌≡◌, List, [], ◌∷◌, ◌++◌, false, Some, Ok, refl, sym, ap, ◌∙◌, arith, length, map, append_assoc, append-nil, inl}
 use Rattle.tokens.specs.declared.kind.Kind.TheVariants as kind
 use Rattle.trees.specs.declared.tree.Unary.TheVariants as unary
 use Rattle.trees.specs.declared.tree.Sort.{Sort}
@@ -10,7 +10,9 @@ use Rattle.tokens.specs.Words.{Word, word}
 use Rattle.syntax.specs.Plain.{Plain, number, prefixed, joined, bound, counted, sign_of, quantifier_of, colon, semicolon, close, names, written}
 use Rattle.syntax.specs.Parsing.{Reader, begins, parse}
 use Rattle.syntax.specs.Grammar.{bare, AreNames, IsText}
-use Rattle.syntax.specs.Items.{PlainItem, free, predicate, assumed, claimed, sort_of, more_parameters, parameters_at, formula_at, claimed_at, item_at, more_read, read_words, sort_word, parameters, parameters_more, equal, written_item, written_items, bare_item, IsFormula, AreParameters, IsItem, AreItems}
+use Rattle.syntax.specs.Rows.{is_rows}
+use Rattle.syntax.specs.Items.{PlainItem, free, row, predicate, assumed, claimed, sort_of, more_parameters, parameters_at, formula_at, claimed_at, other_at, row_or, item_at, more_read, read_words, sort_word, parameters, parameters_more, equal, written_item, written_items, bare_item, IsFormula, AreParameters, IsItem, AreItems}
+use Rattle.syntax.proofs.RowsLaws.{no_row}
 use Rattle.syntax.proofs.WrittenLaws.{longer, names_again, names_at_longer}
 use Rattle.syntax.proofs.RoundTrip.{read_again}
 
@@ -31,23 +33,26 @@ no_header (joined b s t) rest x = no_header s (sign_of b ∷ written t rest) x.0
 no_header (bound q sort xs t) rest x = quantifier_no_header q sort (names xs (colon ∷ written t rest))
 no_header _ rest x = refl
 
-quantifier_claimed : (p : Reader) (n : ℕ) (q : Quantifier) (sort : Sort) (ws : List Word) → item_at p n (quantifier_of q sort ∷ ws) ≡ claimed_at p (quantifier_of q sort ∷ ws)
+quantifier_claimed : (p : Reader) (n : ℕ) (q : Quantifier) (sort : Sort) (ws : List Word) → other_at p n (quantifier_of q sort ∷ ws) ≡ claimed_at p (quantifier_of q sort ∷ ws)
 quantifier_claimed p n quantifier.Some Place ws = refl
 quantifier_claimed p n quantifier.Some Set ws = refl
 quantifier_claimed p n quantifier.All Place ws = refl
 quantifier_claimed p n quantifier.All Set ws = refl
 
 -- a formula begins as no other item does
-is_claimed : (p : Reader) (n : ℕ) (t : Plain) (rest : List Word) → IsText t → item_at p n (written t rest) ≡ claimed_at p (written t rest)
-is_claimed p n (number i) rest x = absurd x
-is_claimed p n (counted t i j) rest x = absurd x
-is_claimed p n (prefixed unary.Not t) rest x = refl
-is_claimed p n (prefixed unary.Min t) rest x = refl
-is_claimed p n (prefixed unary.Max t) rest x = refl
-is_claimed p n (prefixed unary.IsEmpty t) rest x = refl
-is_claimed p n (joined b s t) rest x = is_claimed p n s (sign_of b ∷ written t rest) x.0
-is_claimed p n (bound q sort xs t) rest x = quantifier_claimed p n q sort (names xs (colon ∷ written t rest))
-is_claimed p n _ rest x = refl
+other_claimed : (p : Reader) (n : ℕ) (t : Plain) (rest : List Word) → IsText t → other_at p n (written t rest) ≡ claimed_at p (written t rest)
+other_claimed p n (number i) rest x = absurd x
+other_claimed p n (counted t i j) rest x = absurd x
+other_claimed p n (prefixed unary.Not t) rest x = refl
+other_claimed p n (prefixed unary.Min t) rest x = refl
+other_claimed p n (prefixed unary.Max t) rest x = refl
+other_claimed p n (prefixed unary.IsEmpty t) rest x = refl
+other_claimed p n (joined b s t) rest x = other_claimed p n s (sign_of b ∷ written t rest) x.0
+other_claimed p n (bound q sort xs t) rest x = quantifier_claimed p n q sort (names xs (colon ∷ written t rest))
+other_claimed p n _ rest x = refl
+
+is_claimed : (p : Reader) (n : ℕ) (t : Plain) (rest : List Word) → IsText t → is_rows t ≡ false → item_at p n (written t rest) ≡ claimed_at p (written t rest)
+is_claimed p n t rest x e = ap (λ o. row_or o (other_at p n (written t rest))) (no_row t rest x (inl e)) ∙ other_claimed p n t rest x
 
 formula_again : (t : Plain) (n c : ℕ) (rest : List Word) → IsFormula t → c ≡ 2000 → length (written t (semicolon ∷ rest)) ≤ n → formula_at (parse n c) (written t (semicolon ∷ rest)) ≡ Ok (bare t, rest)
 formula_again t n c rest x e le = rw (read_again t n c (semicolon ∷ rest) x.0 (omega (arith, e, x.1)) x.2 (refl, refl) le) refl
@@ -89,6 +94,7 @@ parameters_again (p ∷ ps) n rest a le =
 
 longer_item : (i : PlainItem) (rest : List Word) → length rest < length (written_item i rest)
 longer_item (free sort xs) rest = let h = names_at_longer xs (semicolon ∷ rest) in omega arith
+longer_item (row places last) rest = omega arith
 longer_item (predicate f ps t) rest = let h = longer t (semicolon ∷ rest) in let i = parameters_at_longer ps (close ∷ equal ∷ written t (semicolon ∷ rest)) in omega arith
 longer_item (assumed t) rest = let h = longer t (semicolon ∷ rest) in omega arith
 longer_item (claimed t) rest = let h = longer t (semicolon ∷ rest) in omega arith
@@ -99,12 +105,13 @@ free_again Set p n xs rest x le = rw (names_again xs n (semicolon ∷ rest) x re
 
 item_again : (i : PlainItem) (n c : ℕ) (rest : List Word) → IsItem i → c ≡ 2000 → length (written_item i rest) ≤ n → item_at (parse n c) n (written_item i rest) ≡ Ok (bare_item i, rest)
 item_again (free sort xs) n c rest x e le = free_again sort (parse n c) n xs rest x (omega (arith, le))
+item_again (row places last) n c rest x e le = rw x.0 (rw x.1 refl)
 item_again (predicate f ps t) n c rest x e le =
     let i = parameters_at_longer ps (close ∷ equal ∷ written t (semicolon ∷ rest)) in
     let ps_again = parameters_again ps n (equal ∷ written t (semicolon ∷ rest)) x.1 (omega (arith, le)) in
     rw x.0 (rw ps_again (rw (formula_again t n c rest x.2 e (omega (arith, le, i))) refl))
 item_again (assumed t) n c rest x e le = rw (formula_again t n c rest x e (omega (arith, le))) refl
-item_again (claimed t) n c rest x e le = is_claimed (parse n c) n t (semicolon ∷ rest) x.0 ∙ rw (formula_again t n c rest x e le) refl
+item_again (claimed t) n c rest x e le = is_claimed (parse n c) n t (semicolon ∷ rest) x.0.0 x.1 ∙ rw (formula_again t n c rest x.0 e le) refl
 
 goes_on : (p : Reader) (n k : ℕ) (is : List PlainItem) (ws rest : List Word) (i : PlainItem) → length ws ≤ k → 0 < length ws → item_at p n ws ≡ Ok (i, rest) → (j : ℕ) × (k ≡ suc j) × (more_read p n k is ws ≡ more_read p n j (is ++ i ∷ []) rest)
 goes_on p n k is [] rest i le lt e = absurd (omega (arith, lt))
@@ -120,9 +127,10 @@ more_again (i ∷ is) n k c acc x e le lk =
 
 item_no_header : (i : PlainItem) (rest : List Word) → IsItem i → begins kind.Ws1s (written_item i rest) ≡ false
 item_no_header (free sort xs) rest x = sort_no_header sort (names xs (semicolon ∷ rest))
+item_no_header (row places last) rest x = refl
 item_no_header (predicate f ps t) rest x = refl
 item_no_header (assumed t) rest x = refl
-item_no_header (claimed t) rest x = no_header t (semicolon ∷ rest) x.0
+item_no_header (claimed t) rest x = no_header t (semicolon ∷ rest) x.0.0
 
 items_no_header : (is : List PlainItem) → AreItems is → begins kind.Ws1s (written_items is) ≡ false
 items_no_header [] x = refl

@@ -3,6 +3,7 @@ pub mod AsciiLaws
 pub mod NamesLaws
 pub mod WrittenLaws
 pub mod RoundTrip
+pub mod RowsLaws
 pub mod ExpressionLaws
 pub mod ItemsLaws
 pub mod ItemsAgain

@@ -2,6 +2,7 @@
 pub mod Plain
 pub mod Parsing
 pub mod Grammar
+pub mod Rows
 pub mod Views
 pub mod Items
 pub mod Printed

@@ -3,10 +3,11 @@ ghost use Rattle.std.specs.Prelude.{◌≡◌, ℕ, ◌+◌, ◌<◌, ◌≤◌,
 ghost use Rattle.syntax.specs.Parsing.{parse, tail};
 ghost use Rattle.tokens.specs.Words.{words};
 ghost use Rattle.syntax.specs.Views.{Gives, view};
-ghost use Rattle.syntax.specs.Items.{PlainItem, view_parameter, view_parameters, view_item, view_items, sort_of, given, behind_sort, more_parameters, parameters_at, formula_at, predicate_at, free_at, item_at, header, read_words};
+ghost use Rattle.syntax.specs.Items.{PlainItem, view_parameter, view_parameters, view_item, view_items, sort_of, given, behind_sort, more_parameters, parameters_at, formula_at, predicate_at, free_at, other_at, item_at, header, read_words};
 
 use crate::expression::expression;
 use crate::fault::{Fault, Wanted};
+use crate::row::{behind_row, named_row};
 use crate::source::{Source, front, name, names, span, token};
 use tokens::kind::Kind;
 use tokens::token::Token;
@@ -133,10 +134,11 @@ fn free<'a>(
     Ok((Item::Free(sort, names), rest))
 }
 
-fn item<'a>(source: &Source<'_>, tokens: &'a [Token]) -> Result<(Item, &'a [Token]), Fault>
+// An item that is not a row.
+fn other<'a>(source: &Source<'_>, tokens: &'a [Token]) -> Result<(Item, &'a [Token]), Fault>
     requires known { length tokens.now ≤ source.now.count }
     requires some { 0 < length tokens.now }
-    ensures gives { Gives (λ r. (view_item r.0, words source.now.text.now r.1.now)) result (item_at (parse source.now.count source.now.open) source.now.count (words source.now.text.now tokens.now)) }
+    ensures gives { Gives (λ r. (view_item r.0, words source.now.text.now r.1.now)) result (other_at (parse source.now.count source.now.open) source.now.count (words source.now.text.now tokens.now)) }
     ensures less { IfOk result (λ r. length r.1.now < length tokens.now) }
 {
     let [first, rest @ ..] = tokens else {
@@ -154,6 +156,18 @@ fn item<'a>(source: &Source<'_>, tokens: &'a [Token]) -> Result<(Item, &'a [Toke
             let (claimed, rest) = formula(source, tokens)?;
             Ok((Item::Formula(Box::into_inner(claimed)), rest))
         }
+    }
+}
+
+fn item<'a>(source: &Source<'_>, tokens: &'a [Token]) -> Result<(Item, &'a [Token]), Fault>
+    requires known { length tokens.now ≤ source.now.count }
+    requires some { 0 < length tokens.now }
+    ensures gives { Gives (λ r. (view_item r.0, words source.now.text.now r.1.now)) result (item_at (parse source.now.count source.now.open) source.now.count (words source.now.text.now tokens.now)) }
+    ensures less { IfOk result (λ r. length r.1.now < length tokens.now) }
+{
+    match behind_row(source, tokens) {
+        Some((span, rest)) => Ok((Item::Row(named_row(source.heap, span)?), rest)),
+        None => other(source, tokens),
     }
 }
 

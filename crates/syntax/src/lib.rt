@@ -7,5 +7,6 @@ mod items;
 pub mod operators;
 pub mod parse;
 mod part;
+mod row;
 mod source;
 mod tally;

@@ -26,8 +26,8 @@ pub struct Source<'t> {
     pub open: u32,
 }
 
-// The bytes of a token, as far as they are in the text.
-fn bytes(text: &[u8], token: Token) -> &[u8]
+/// The bytes of a token, as far as they are in the text.
+pub fn bytes(text: &[u8], token: Token) -> &[u8]
     ensures { result.now ≡ bytes_of text.now token }
 {
     if token.span.start <= token.span.end && token.span.end <= text.len() {

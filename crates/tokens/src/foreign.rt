@@ -16,10 +16,16 @@ pub const FOREIGN: [(&[u8], &str); 38] = [
     (b"in_state_space", "trees are not supported"),
     (
         b"m2l",
-        "rows of a fixed length are not supported: say where the row ends by a place of its own",
+        "a text about a row begins with `rows;`, or with `m2l-str;`",
     ),
-    (b"allpos", "rows of a fixed length are not supported"),
-    (b"lastpos", "rows of a fixed length are not supported"),
+    (
+        b"allpos",
+        "in a text that begins with `rows;` the row's places are called `row`",
+    ),
+    (
+        b"lastpos",
+        "in a text that begins with `rows;` the row's last place is called `last`",
+    ),
     (b"let0", "`let` is not supported: write a predicate"),
     (b"let1", "`let` is not supported: write a predicate"),
     (b"let2", "`let` is not supported: write a predicate"),

@@ -1,0 +1,52 @@
+-- What is claimed does not begin as a row does.
+use Rattle.std.proofs.Common.{ℕ, ◌≡◌, ◌⊎◌, inl, inr, List, [], ◌∷◌, Bool, true, false, if◌then◌else◌, Some, None, refl}
+use Rattle.std.specs.Option.{option_or, option_and_then}
+use Rattle.std.specs.Str.{bytes_eq}
+use Rattle.tokens.specs.declared.kind.Kind.TheVariants as kind
+use Rattle.trees.specs.declared.tree.Unary.TheVariants as unary
+use Rattle.trees.specs.declared.tree.Binary.{Binary}
+use Rattle.trees.specs.declared.tree.Binary.TheVariants as binary
+use Rattle.trees.specs.declared.tree.Sort.{Sort}
+use Rattle.trees.specs.declared.tree.Sort.TheVariants.{Place, Set}
+use Rattle.trees.specs.declared.tree.Quantifier.{Quantifier}
+use Rattle.trees.specs.declared.tree.Quantifier.TheVariants as quantifier
+use Rattle.tokens.specs.Words.{Word, word}
+use Rattle.syntax.specs.Plain.{Plain, number, named, prefixed, joined, bound, call, counted, sign_of, quantifier_of, colon, semicolon, names, written}
+use Rattle.syntax.specs.Parsing.{begins}
+use Rattle.syntax.specs.Grammar.{IsText}
+use Rattle.syntax.specs.Rows.{rows_name, behind_words, behind_row, is_rows}
+
+sign_no_row : (b : Binary) (ws : List Word) → begins kind.Semicolon (sign_of b ∷ ws) ≡ false
+sign_no_row binary.Iff ws = refl
+sign_no_row _ ws = refl
+
+quantifier_no_row : (q : Quantifier) (sort : Sort) (ws : List Word) → behind_row (quantifier_of q sort ∷ ws) ≡ None
+quantifier_no_row quantifier.Some Place ws = refl
+quantifier_no_row quantifier.Some Set ws = refl
+quantifier_no_row quantifier.All Place ws = refl
+quantifier_no_row quantifier.All Set ws = refl
+
+no_end : (ws : List Word) → begins kind.Semicolon ws ≡ false → behind_words (semicolon ∷ []) ws ≡ None
+no_end [] e = refl
+no_end (word k d ∷ ws) e = rw e refl
+
+-- a name that is not `rows`, or behind which there is no `;`
+name_no_row : (x : List ℕ) (ws : List Word) → (bytes_eq x rows_name ≡ false) ⊎ (begins kind.Semicolon ws ≡ false) → behind_row (word kind.Name x ∷ ws) ≡ None
+name_no_row x ws (inl e) = rw e refl
+name_no_row x ws (inr e) = go (bytes_eq x rows_name) (no_end ws e) where
+  go : (b : Bool) → behind_words (semicolon ∷ []) ws ≡ None → option_or (option_and_then (behind_words (semicolon ∷ [])) (if b then Some ws else None)) None ≡ None
+  go true h = rw h refl
+  go false h = refl
+
+pub no_row : (t : Plain) (rest : List Word) → IsText t → (is_rows t ≡ false) ⊎ (begins kind.Semicolon rest ≡ false) → behind_row (written t rest) ≡ None
+no_row (number n) rest x e = absurd x
+no_row (counted t m r) rest x e = absurd x
+no_row (named f) rest x e = name_no_row f rest e
+no_row (call f ts) rest x e = name_no_row f _ (inr refl)
+no_row (prefixed unary.Not t) rest x e = refl
+no_row (prefixed unary.Min t) rest x e = refl
+no_row (prefixed unary.Max t) rest x e = refl
+no_row (prefixed unary.IsEmpty t) rest x e = refl
+no_row (joined b s t) rest x e = no_row s (sign_of b ∷ written t rest) x.0 (inr (sign_no_row b (written t rest)))
+no_row (bound q sort xs t) rest x e = quantifier_no_row q sort (names xs (colon ∷ written t rest))
+no_row _ rest x e = refl
