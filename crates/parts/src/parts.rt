@@ -1,6 +1,7 @@
 // The parts of a formula, as they stand in the text and as formulas over numbers.
 ghost use Rattle.std.specs.Prelude.{◌≡◌, ◌++◌, [], ◌∷◌, map, position, string_bytes, IfOk, OnOk, MatchOption, Some, None};
-ghost use Rattle.parts.specs.Parts.{piece_of, denied as denied_of, implied, halves as halves_of, under as under_of, defines as defines_of, one, two, called as called_of, parts as parts_of, stated_by, statements as statements_of};
+ghost use Rattle.std.specs.List.{list_any};
+ghost use Rattle.parts.specs.Parts.{piece_of, denied as denied_of, implied, halves as halves_of, behind_bound as behind_of, under as under_of, is_row as is_row_of, defines as defines_of, one, two, called as called_of, parts as parts_of, stated_by, statements as statements_of};
 
 use formulas::formula::Formula;
 use resolve::asked::{Asked, Stated};
@@ -8,17 +9,28 @@ use resolve::scope::is_same;
 use std::alloc::{AllocError, Global};
 use trees::tree::{Binary, Expr, ExprKind, Item, Name, Unary};
 
-/// What stands in a text, that as a formula, and the items whose predicates are known there.
+/// What stands in a text, that as a formula, the items whose predicates are known there, and whether a row is spoken of there.
 #[derive(Clone, Copy)]
 pub struct Part<'t, 'f> {
     pub known: &'t [Item],
     pub expr: &'t Expr,
     pub formula: &'f Formula,
+    pub in_row: bool,
+}
+
+// What is said of a bound name besides that it is the row's, where a row is spoken of.
+fn behind_bound(in_row: bool, formula: &Formula) -> &Formula
+    ensures { result.now ≡ behind_of in_row formula.now }
+{
+    match (in_row, formula) {
+        (true, Formula::And(_, body) | Formula::Implies(_, body)) => &**body,
+        _ => formula,
+    }
 }
 
 // What quantifiers over the names say something of.
-fn under<'f>(names: &[Name], formula: &'f Formula) -> &'f Formula
-    ensures { result.now ≡ under_of names.now formula.now }
+fn under<'f>(in_row: bool, names: &[Name], formula: &'f Formula) -> &'f Formula
+    ensures { result.now ≡ under_of in_row names.now formula.now }
 {
     let [_, others @ ..] = names else {
         return formula;
@@ -27,7 +39,7 @@ fn under<'f>(names: &[Name], formula: &'f Formula) -> &'f Formula
         Formula::Some1(_, body)
         | Formula::All1(_, body)
         | Formula::Some2(_, body)
-        | Formula::All2(_, body) => under(others, body),
+        | Formula::All2(_, body) => under(in_row, others, behind_bound(in_row, body)),
         _ => formula,
     }
 }
@@ -74,6 +86,28 @@ fn defines(item: &Item, name: &Name) -> bool
     }
 }
 
+// Whether from an item on a row is spoken of.
+fn is_row(item: &Item) -> bool
+    ensures { result ≡ is_row_of item.now }
+{
+    match item {
+        Item::Row(_) => true,
+        _ => false,
+    }
+}
+
+fn any_row(items: &[Item]) -> bool
+    ensures { result ≡ list_any is_row_of items.now }
+{
+    let [first, others @ ..] = items else {
+        return false;
+    };
+    if is_row(first) {
+        return true;
+    }
+    any_row(others)
+}
+
 // Which item defines the predicate of this name.
 fn definition(known: &[Item], name: &Name) -> Option<usize>
     ensures { result ≡ position (defines_of (string_bytes name.now.text)) known.now }
@@ -100,6 +134,7 @@ fn called<'t, 'f>(
         known: &known[..i],
         expr: &predicate.body,
         formula,
+        in_row: any_row(&known[..i]),
     };
     Ok(Vec::from_array(heap, [body])?)
 }
@@ -107,19 +142,19 @@ fn called<'t, 'f>(
 // The part that a formula denies.
 fn opposite<'t, 'f>(
     heap: Global,
-    known: &'t [Item],
+    part: Part<'t, 'f>,
     expr: &'t Expr,
-    formula: &'f Formula,
 ) -> Result<Vec<Part<'t, 'f>>, AllocError>
-    ensures { IfOk result (λ all. map piece_of all.items ≡ one known.now expr.now (denied_of formula.now)) }
+    ensures { IfOk result (λ all. map piece_of all.items ≡ one part.entry.known.now part.entry.in_row expr.now (denied_of part.entry.formula.now)) }
 {
-    match denied(formula) {
+    match denied(part.formula) {
         Some(formula) => Ok(Vec::from_array(
             heap,
             [Part {
-                known,
+                known: part.known,
                 expr,
                 formula,
+                in_row: part.in_row,
             }],
         )?),
         None => Ok(Vec::new(heap)),
@@ -129,25 +164,26 @@ fn opposite<'t, 'f>(
 // The two parts that a connective joins.
 fn joined<'t, 'f>(
     heap: Global,
-    known: &'t [Item],
+    part: Part<'t, 'f>,
     binary: Binary,
     a: &'t Expr,
     b: &'t Expr,
-    formula: &'f Formula,
 ) -> Result<Vec<Part<'t, 'f>>, AllocError>
-    ensures { IfOk result (λ all. map piece_of all.items ≡ two known.now a.now b.now (halves_of binary formula.now)) }
+    ensures { IfOk result (λ all. map piece_of all.items ≡ two part.entry.known.now part.entry.in_row a.now b.now (halves_of binary part.entry.formula.now)) }
 {
-    match halves(binary, formula) {
+    match halves(binary, part.formula) {
         Some((first, second)) => {
             let a = Part {
-                known,
+                known: part.known,
                 expr: a,
                 formula: first,
+                in_row: part.in_row,
             };
             let b = Part {
-                known,
+                known: part.known,
                 expr: b,
                 formula: second,
+                in_row: part.in_row,
             };
             Ok(Vec::from_array(heap, [a, b])?)
         }
@@ -160,13 +196,14 @@ pub fn parts<'t, 'f>(heap: Global, part: Part<'t, 'f>) -> Result<Vec<Part<'t, 'f
     ensures { IfOk result (λ all. map piece_of all.items ≡ parts_of (piece_of part.entry)) }
 {
     match &part.expr.kind {
-        ExprKind::Unary(Unary::Not, a) => opposite(heap, part.known, a, part.formula),
-        ExprKind::Binary(sign, a, b) => joined(heap, part.known, *sign, a, b, part.formula),
+        ExprKind::Unary(Unary::Not, a) => opposite(heap, part, a),
+        ExprKind::Binary(sign, a, b) => joined(heap, part, *sign, a, b),
         ExprKind::Bound(_, _, names, body) => {
             let inside = Part {
                 known: part.known,
                 expr: body,
-                formula: under(names, part.formula),
+                formula: under(part.in_row, names, part.formula),
+                in_row: part.in_row,
             };
             Ok(Vec::from_array(heap, [inside])?)
         }
@@ -190,6 +227,7 @@ fn push_stated<'t, 'f>(
         known: items,
         expr: first.expr,
         formula: &first.formula,
+        in_row: first.in_row,
     })?;
     push_stated(all, items, others)
 }

@@ -1,0 +1,61 @@
+use Rattle.std.proofs.Common.{◌≡◌, ℕ, List, ◌∷◌, Some, None, Option, arith, ltb→lt, lt→ltb, le→leb, leb→le, Bor, MatchOption}
+use Rattle.kinds.specs.Atoms.{sets_of}
+use Rattle.row_claims.specs.Meaning.{RowClaim, atom, last, not1, and1, some}
+use Rattle.row_claims.specs.Fronts.{RowFront, NoRowFront}
+use Rattle.row_claims.proofs.SignLaws.{sign_is, no_sign}
+use Rattle.row_claims.proofs.FrontLaws.{no_other, front_not, no_not, front_some, no_some, front_and, no_first, no_second}
+use Rattle.row_claims.proofs.prefix.+skip.Goals as goal
+
+-- what the answer for the last part says of the whole
+lift : (k : ℕ) (r s : List ℕ) (o : Option (Bor (List ℕ))) → (NoRowFront k r → NoRowFront k s) → ((c : RowClaim) (t : List ℕ) → RowFront k c r t → (d : RowClaim) × RowFront k d s t) → MatchOption o (NoRowFront k r) (λ p. (c : RowClaim) × RowFront k c r p.now) → MatchOption o (NoRowFront k s) (λ p. (d : RowClaim) × RowFront k d s p.now)
+lift k r s None f g h = f h
+lift k r s (Some p) f g h = g h.0 p.now h.1
+
+pub returns-in_err-sign : goal.returns-in_err-sign
+returns-in_err-sign t c = rw c.from_residual.ensures (no_sign c.args.k c.args.bytes.now c.in_err-sign.ensures)
+
+pub returns-in_err-more-in-And : goal.returns-in_err-more-in-And
+returns-in_err-more-in-And t c =
+    let e : 5 ∷ c.in_ok-sign.rest.now ≡ c.args.bytes.now = sign_is _ _ _ _ c.in_ok-sign.ensures c.in-And.is in
+    rw c.from_residual-in_err-more-in-And.ensures (no_first c.args.k c.in_ok-sign.rest.now c.args.bytes.now e c.in_err-more-in-And.ensures)
+
+pub returns-in-Not : goal.returns-in-Not
+returns-in-Not t c =
+    let e : 4 ∷ c.in_ok-sign.rest.now ≡ c.args.bytes.now = sign_is _ _ _ _ c.in_ok-sign.ensures c.in-Not.is in
+    lift _ _ _ _ (no_not _ _ _ e) (λ d t f. (not1 d, front_not _ _ _ _ _ e f)) c.skip.ensures
+
+pub returns-in_ok-more-in-And : goal.returns-in_ok-more-in-And
+returns-in_ok-more-in-And t c =
+    let e : 5 ∷ c.in_ok-sign.rest.now ≡ c.args.bytes.now = sign_is _ _ _ _ c.in_ok-sign.ensures c.in-And.is in
+    let (d, f) = c.in_ok-more-in-And.ensures in
+    let k = c.args.k in
+    let r = c.in_ok-sign.rest.now in
+    let s = c.args.bytes.now in
+    let m = c.in_ok-more-in-And.more.now in
+    lift k m s _ (no_second k d r s m e f) (λ d' t f'. (and1 d d', front_and k d d' r s m t e f f')) c.skip-in-And-2.ensures
+
+pub returns-then-x-k : goal.returns-then-x-k
+returns-then-x-k t c = (last c.in-Last.x, record { rows = sign_is _ _ _ _ c.in_ok-sign.ensures c.in-Last.is; fine = lt→ltb c.in-Last.x c.args.k c.if-x-k.true })
+
+pub returns-else-x-k : goal.returns-else-x-k
+returns-else-x-k t c = no_other c.args.k (last c.in-Last.x) _ _ (sign_is _ _ _ _ c.in_ok-sign.ensures c.in-Last.is) (λ h. let l = ltb→lt c.in-Last.x c.args.k h in omega arith)
+
+pub returns-then-x-k-2 : goal.returns-then-x-k-2
+returns-then-x-k-2 t c =
+    let e : 6 ∷ c.in-Some.x ∷ c.in_ok-sign.rest.now ≡ c.args.bytes.now = sign_is _ _ _ _ c.in_ok-sign.ensures c.in-Some.is in
+    lift _ _ _ _ (λ n. no_some _ _ _ _ e (λ l. n)) (λ d t f. (some _ d, front_some _ _ _ _ _ _ e (lt→ltb _ _ c.if-x-k-2.true) f)) c.skip-then-x-k-2.ensures
+
+pub returns-else-x-k-2 : goal.returns-else-x-k-2
+returns-else-x-k-2 t c =
+    let e : 6 ∷ c.in-Some.x ∷ c.in_ok-sign.rest.now ≡ c.args.bytes.now = sign_is _ _ _ _ c.in_ok-sign.ensures c.in-Some.is in
+    no_some _ _ _ _ e (λ l. let z : ⊥ = omega (arith, ltb→lt _ _ l) in absurd z)
+
+pub returns-then-sets-k : goal.returns-then-sets-k
+returns-then-sets-k t c =
+    let a = c.in-Atom.atom in
+    (atom a, record { rows = sign_is _ _ _ _ c.in_ok-sign.ensures c.in-Atom.is; fine = le→leb (sets_of a) c.args.k (omega (arith, c.sets.ensures)) })
+
+pub returns-else-sets-k : goal.returns-else-sets-k
+returns-else-sets-k t c =
+    let a = c.in-Atom.atom in
+    no_other c.args.k (atom a) _ _ (sign_is _ _ _ _ c.in_ok-sign.ensures c.in-Atom.is) (λ h. let l = leb→le (sets_of a) c.args.k h in omega (arith, l, c.sets.ensures))
