@@ -165,9 +165,14 @@ fn are_one(about: About, items: &[Item], now: &[String], after: &[String]) -> bo
     ensures { OnTrue result (AreOne about items.now (map (λ n. string_bytes n) now.now) (map (λ n. string_bytes n) after.now)) }
 {
     match (about, items) {
-        (About::Row, [Item::Free(Sort::Set, bits), Item::Row(row), Item::Formula(_)]) => {
-            are_named(bits, now) && is_row(row)
-        }
+        (
+            About::Row,
+            [
+                Item::Free(Sort::Set, bits),
+                Item::Row(row),
+                Item::Formula(_),
+            ],
+        ) => are_named(bits, now) && is_row(row),
         (
             About::Step,
             [
