@@ -13,11 +13,11 @@ use Rattle.rule_file.specs.Claims.{bytes_of, claim_name, claim_names, Differ}
 pub differs : (x y p q : List ℕ) (r : Bool) → x ≡ p → y ≡ q → Decides r (x ≡ y) → r ≡ false → p ≢ q
 differs x y p q r a b d f = λ (e : p ≡ q). let t : r ≡ true = d.1 (a ∙ e ∙ sym b) in cc
 
--- one more of the others differs from a name
-pub apart_more : (text : List ℕ) (others : List Token) (name : Token) (i : ℕ) (d : Token) → i < length others → All (λ o. bytes_of text o ≢ bytes_of text name) (take i others) → bytes_of text (get_or others i d) ≢ bytes_of text name → All (λ o. bytes_of text o ≢ bytes_of text name) (take (i + 1) others)
-apart_more text others name i d h a p =
-    subst (λ (ts : List Token). All (λ o. bytes_of text o ≢ bytes_of text name) ts) (sym (take_more others i d h))
-    (All-push (λ (o : Token). bytes_of text o ≢ bytes_of text name) (take i others) (get_or others i d) a p)
+-- one more of the others differs from a word
+pub apart_more : (text : List ℕ) (others : List Token) (word : List ℕ) (i : ℕ) (d : Token) → i < length others → All (λ o. bytes_of text o ≢ word) (take i others) → bytes_of text (get_or others i d) ≢ word → All (λ o. bytes_of text o ≢ word) (take (i + 1) others)
+apart_more text others word i d h a p =
+    subst (λ (ts : List Token). All (λ o. bytes_of text o ≢ word) ts) (sym (take_more others i d h))
+    (All-push (λ (o : Token). bytes_of text o ≢ word) (take i others) (get_or others i d) a p)
 
 -- one more name differs from those before it
 pub differ_more : (text : List ℕ) (names : List Token) (i : ℕ) (d : Token) → i < length names → Differ text (take i names) → All (λ o. bytes_of text o ≢ bytes_of text (get_or names i d)) (take i names) → Differ text (take (i + 1) names)

@@ -1,5 +1,5 @@
 -- The names that a rule file declares.
-use Rattle.std.specs.Prelude.{ℕ, ◌≡◌, ◌≢◌, ◌≤◌, Option, Some, None, List, All, length, slice_range}
+use Rattle.std.specs.Prelude.{ℕ, ◌≡◌, ◌≢◌, ◌≤◌, Option, Some, None, List, All, codes, length, slice_range}
 use Rattle.std.specs.List.{AllPairs, filter_map}
 use Rattle.rule_file.specs.declared.token.Token.{Token}
 use Rattle.rule_file.specs.declared.token.Kind.TheVariants.{Name}
@@ -24,9 +24,10 @@ bytes_of text t = slice_range text t.span.start t.span.end
 abbrev pub Differ : List ℕ → List Token → Type 0
 Differ text names = AllPairs (λ a b. bytes_of text a ≢ bytes_of text b) names
 
--- one to five names that differ
+-- one to five names that differ, none of which is the name of the row's last place
 pub record AreBits (text : List ℕ) (bits : List Token) : Type 0 where
   pub some : 1 ≤ length bits
   pub few : length bits ≤ 5
   pub names : All (λ t. t.kind ≡ Name) bits
   pub bits_differ : Differ text bits
+  pub not_last : All (λ t. bytes_of text t ≢ codes "last") bits

@@ -1,5 +1,5 @@
 // The names that a file declares: at most five bits, none of which means something in formulas, and no name twice.
-ghost use Rattle.std.specs.Prelude.{◌≡◌, ◌≢◌, ◌≤◌, ℕ, [], ◌++◌, IfOk, IfNone, OnOk, All, length};
+ghost use Rattle.std.specs.Prelude.{◌≡◌, ◌≢◌, ◌≤◌, ℕ, [], ◌++◌, IfOk, IfNone, OnOk, All, codes, length};
 ghost use Rattle.std.specs.Bool.{OnFalse};
 ghost use Rattle.std.specs.List.{cons_option};
 ghost use Rattle.rule_file.specs.Claims.{bytes_of, claim_names, Differ};
@@ -10,6 +10,9 @@ use crate::tree::Line;
 use std::alloc::{AllocError, Global};
 
 const MOST_BITS: usize = 5;
+
+// What formulas call the last place of the row.
+const LAST: &[u8] = b"last";
 
 /// The bytes of a token, as far as they are in the text.
 pub fn bytes<'a>(text: &'a [u8], token: &Token) -> &'a [u8]
@@ -54,8 +57,13 @@ fn check_differ(text: &[u8], names: &[Token]) -> Result<(), Fault>
     }
 }
 
-// A name that formulas can have.
-fn check_formula_name(alloc: Global, text: &[u8], name: &Token) -> Result<(), Fault> {
+// A name that formulas can have for a bit.
+fn check_formula_name(alloc: Global, text: &[u8], name: &Token) -> Result<(), Fault>
+    ensures { IfOk result (λ _. bytes_of text.now name.now ≢ codes "last") }
+{
+    if bytes(text, name) == LAST {
+        return Err(Fault::Reserved(*name));
+    }
     match tokens::token::tokens(alloc, bytes(text, name)) {
         Err(tokens::token::NoToken::Memory) => Err(Fault::OutOfMemory),
         Err(_) => Err(Fault::Reserved(*name)),
@@ -66,14 +74,23 @@ fn check_formula_name(alloc: Global, text: &[u8], name: &Token) -> Result<(), Fa
     }
 }
 
+// Names that formulas can have for bits. Fails at the first that they cannot, and for memory.
+fn check_formula_names(alloc: Global, text: &[u8], names: &[Token]) -> Result<(), Fault>
+    ensures { IfOk result (λ _. All (λ t. bytes_of text.now t ≢ codes "last") names.now) }
+{
+    for name in names {
+        check_formula_name(alloc, text, name)?;
+    }
+    Ok(())
+}
+
 /// Checks the names of the bits: that there are five at most, that they differ and that formulas can have them. Fails at the first that is wrong, and for memory.
 pub fn check_bits(alloc: Global, text: &[u8], bits: &[Token]) -> Result<(), Fault>
     ensures few { IfOk result (λ _. length bits.now ≤ 5) }
     ensures bits { IfOk result (λ _. Differ text.now bits.now) }
+    ensures last { IfOk result (λ _. All (λ t. bytes_of text.now t ≢ codes "last") bits.now) }
 {
-    for name in bits {
-        check_formula_name(alloc, text, name)?;
-    }
+    check_formula_names(alloc, text, bits)?;
     check_differ(text, bits)?;
     if bits.len() > MOST_BITS {
         return Err(Fault::SixthBit(bits[MOST_BITS]));

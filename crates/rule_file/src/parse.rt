@@ -97,7 +97,7 @@ fn file(alloc: Global, text: &[u8], tokens: &[Token]) -> Result<File, Fault>
 }
 
 /// The tree of a rule file. Its tokens, written one after the other, are those of the text: nothing is left out, and each stands in one place. It has one
-/// to five bits; the names of the bits differ, and so do those of the claims. Fails where the text is no rule file, and for memory.
+/// to five bits, none of which is called `last`; the names of the bits differ, and so do those of the claims. Fails where the text is no rule file, and for memory.
 pub fn read(alloc: Global, text: &str) -> Result<File, Fault>
     ensures words { IfOk result (λ f. Covers text.now 0 (file_tokens f) (length text.now)) }
     ensures bits { IfOk result (λ f. AreBits text.now f.bits.items) }

@@ -1,10 +1,11 @@
--- What a formula of a rule file says: what its words say behind a line that declares the sets of which it speaks.
-use Rattle.std.specs.Prelude.{◌≡◌, ℕ, List, [], ◌∷◌, ◌++◌, ◌↔◌, Option, Some, None, codes, map}
+-- What a formula of a rule file says: what its words say of a row with its ends, behind lines that declare the bits and the row.
+use Rattle.std.specs.Prelude.{◌≡◌, ℕ, List, [], ◌∷◌, ◌++◌, ◌↔◌, Option, Some, None, codes, map, string_bytes}
 use Rattle.std.specs.List.{AllZip, filter_map, join_by}
 use Rattle.formulas.specs.Meaning.{Env, Meaning}
 use Rattle.formulas.specs.declared.formula.Formula.{Formula}
 use Rattle.trees.specs.declared.tree.Item.{Item}
-use Rattle.trees.specs.declared.tree.Item.TheVariants.{Free, Formula as claimed}
+use Rattle.trees.specs.declared.tree.Item.TheVariants.{Free, Row, Formula as claimed}
+use Rattle.trees.specs.declared.tree.Row.{Row as Named}
 use Rattle.trees.specs.declared.tree.Sort.TheVariants.{Set}
 use Rattle.syntax.specs.Reads.{IsReadAs}
 use Rattle.syntax.specs.Views.{names_of}
@@ -14,34 +15,44 @@ use Rattle.rule_file.specs.declared.token.Token.{Token}
 use Rattle.rule_file.specs.declared.tree.Line.{Line}
 use Rattle.rule_file.specs.declared.tree.Statement.{Statement}
 use Rattle.rule_file.specs.declared.tree.Statement.TheVariants as statement
-use Rattle.rule_source.specs.Names.{set_names}
+use Rattle.rule_source.specs.Names.{names_after}
 use Rattle.rule_source.specs.declared.bits.Bits.{Bits}
 use Rattle.rule_source.specs.declared.formula.About.{About}
+use Rattle.rule_source.specs.declared.formula.About.TheVariants as about
 use Rattle.rule_source.specs.declared.formula.About.TheVariants.{Row, Step}
 
--- the names of the sets, by their numbers: those of a row, or also those of the row after one step
-abbrev pub sets_of : About → Bits → List (List ℕ)
-sets_of Row b = map (λ n. n.now) b.names.items ++ codes "row" ∷ []
-sets_of Step b = set_names (map (λ n. n.now) b.names.items)
+-- the names of the bits
+abbrev pub names_now : Bits → List (List ℕ)
+names_now b = map (λ n. n.now) b.names.items
 
--- the line that declares sets of these names
+-- a line that declares sets of these names
 abbrev pub declaration : List (List ℕ) → List ℕ
 declaration names = codes "var2 " ++ join_by (λ n. n) (codes ", ") names ++ codes ";\n"
 
--- a formula behind that line
-abbrev pub declared : List (List ℕ) → List ℕ → List ℕ
-declared names formula = declaration names ++ formula ++ codes "\n;\n"
+-- the lines before a formula: the bits of the row, the row, and behind it the bits of the row after one step if the formula is about that row too
+abbrev pub before : About → List (List ℕ) → List (List ℕ) → List ℕ
+before about.Row now after = declaration now ++ codes "rows;\n"
+before about.Step now after = declaration now ++ codes "rows;\n" ++ declaration after
 
--- a declaration of sets with these names, and one formula
-abbrev pub AreOne : List Item → List (List ℕ) → Type 0
-AreOne (Free Set sets ∷ claimed said ∷ []) names = names_of sets.items ≡ names
-AreOne _ names = ⊥
+-- a formula behind those lines
+abbrev pub declared : About → List (List ℕ) → List (List ℕ) → List ℕ → List ℕ
+declared a now after formula = before a now after ++ formula ++ codes "\n;\n"
 
--- the bytes of a token, behind the line that declares the sets, are read as these sets and one formula; f is true of exactly the places and sets of which that text claims it, where a set's number is the place of its name in the line
-pub record FormulaOf (b : Bits) (about : About) (t : Token) (f : Formula) : Type 0 where
+-- the row's places are called `row`, and its last place `last`
+abbrev pub IsRow : Named → Type 0
+IsRow r = (string_bytes r.places.text ≡ codes "row") × (string_bytes r.last.text ≡ codes "last")
+
+-- declarations of sets with these names and of the row, and one formula
+abbrev pub AreOne : About → List Item → List (List ℕ) → List (List ℕ) → Type 0
+AreOne about.Row (Free Set bits ∷ Row r ∷ claimed said ∷ []) now after = (names_of bits.items ≡ now) × IsRow r
+AreOne about.Step (Free Set bits ∷ Row r ∷ Free Set next ∷ claimed said ∷ []) now after = (names_of bits.items ≡ now) × IsRow r × (names_of next.items ≡ after)
+AreOne _ _ _ _ = ⊥
+
+-- the bytes of a token, behind the lines that declare the sets, are read as these declarations and one formula; f is true of exactly the places and sets of which that text claims it, where the sets are numbered in the order in which they are declared: bit j is j, the row is the number of the bits, and behind it come the bits after the step
+pub record FormulaOf (b : Bits) (a : About) (t : Token) (f : Formula) : Type 0 where
   pub items : List Item
-  pub read : IsReadAs (declared (sets_of about b) (bytes_of b.text.now t)) items
-  pub one : AreOne items (sets_of about b)
+  pub read : IsReadAs (declared a (names_now b) (names_after (names_now b)) (bytes_of b.text.now t)) items
+  pub one : AreOne a items (names_now b) (names_after (names_now b))
   pub means : (e : Env) → Meaning f e ↔ (text items e).claimed
 
 -- the formula of a limit
@@ -54,4 +65,4 @@ limits_in ls = filter_map (λ l. limit_of l.statement) ls
 
 -- the formulas are what the limits say, one for each, in their order
 abbrev pub AreLimits : Bits → List Line → List Formula → Type 0
-AreLimits b ls fs = AllZip (FormulaOf b Row) (limits_in ls) fs
+AreLimits b ls fs = AllZip (FormulaOf b about.Row) (limits_in ls) fs

@@ -7,6 +7,10 @@ abbrev pub number_of : List (List ℕ) → List ℕ → ℕ
 number_of [] w = 0
 number_of (v ∷ vs) w = cond (bytes_eq v w) 0 (suc (number_of vs w))
 
+-- the bits of the row after have the names of the bits with `'` behind them
+abbrev pub names_after : List (List ℕ) → List (List ℕ)
+names_after names = map (λ n. n ++ codes "'") names
+
 -- the bits of the row, the row itself, the bits of the row after
 abbrev pub set_names : List (List ℕ) → List (List ℕ)
-set_names names = names ++ codes "row" ∷ [] ++ map (λ n. n ++ codes "'") names
+set_names names = names ++ codes "row" ∷ [] ++ names_after names

@@ -2,7 +2,7 @@
 ghost use Rattle.std.specs.Prelude.{◌≡◌, ◌≢◌, ◌<◌, ◌≤◌, All, length, map, take, slice_get, IfOk, OnErr};
 ghost use Rattle.std.specs.String.{string_bytes};
 ghost use Rattle.rule_file.specs.Claims.{bytes_of};
-ghost use Rattle.rule_source.specs.Names.{number_of, set_names};
+ghost use Rattle.rule_source.specs.Names.{names_after, number_of, set_names};
 
 use crate::fault::Fault;
 use rule_file::names::bytes;
@@ -77,20 +77,38 @@ impl<'t> Bits<'t> {
         Err(Fault::Bit(token))
     }
 
-    /// The names of the sets that claims speak of, by their numbers: the bits, `row`, and the bits of the row after, each with `'` behind it.
-    pub fn set_names(&self, alloc: Global) -> Result<Vec<String>, AllocError>
-        ensures { IfOk result (λ all. map (λ s. string_bytes s) all.items ≡ set_names (map (λ n. n.now) self.now.names.items)) }
+    /// The names of the bits, by their numbers.
+    pub fn names_now(&self, alloc: Global) -> Result<Vec<String>, AllocError>
+        ensures { IfOk result (λ all. map (λ s. string_bytes s) all.items ≡ map (λ n. n.now) self.now.names.items) }
     {
         let mut all = Vec::new(alloc);
         for name in &self.names {
             all.push(String::from_str(alloc, *name)?)?;
         }
-        all.push(String::from_str(alloc, "row")?)?;
+        Ok(all)
+    }
+
+    /// The names of the bits of the row after, by their numbers: each with `'` behind it.
+    pub fn names_after(&self, alloc: Global) -> Result<Vec<String>, AllocError>
+        ensures { IfOk result (λ all. map (λ s. string_bytes s) all.items ≡ names_after (map (λ n. n.now) self.now.names.items)) }
+    {
+        let mut all = Vec::new(alloc);
         for name in &self.names {
             let mut after = String::from_str(alloc, *name)?;
             after.push('\'')?;
             all.push(after)?;
         }
+        Ok(all)
+    }
+
+    /// The names of the sets that claims speak of, by their numbers: the bits, `row`, and the bits of the row after, each with `'` behind it.
+    pub fn set_names(&self, alloc: Global) -> Result<Vec<String>, AllocError>
+        ensures { IfOk result (λ all. map (λ s. string_bytes s) all.items ≡ set_names (map (λ n. n.now) self.now.names.items)) }
+    {
+        let mut all = self.names_now(alloc)?;
+        all.push(String::from_str(alloc, "row")?)?;
+        let mut after = self.names_after(alloc)?;
+        all.append(&mut after)?;
         Ok(all)
     }
 }

@@ -1,13 +1,14 @@
-// Formulas of a rule file. A formula stands in the readable form of claims, in which the bits' names are sets of places, `row` is the set of the row's
-// places, and a name with `'` behind it is that bit of the row after one step. It is read as that form is: behind a line that declares these names, so
-// that the number of a set is the place of its name in that line.
-ghost use Rattle.std.specs.Prelude.{◌≡◌, ◌++◌, ◌↔◌, IfOk, IfSome, map, string_bytes};
+// Formulas of a rule file. A formula stands in the readable form of claims and is about the row with its ends: the bits' names are sets of places, `row` is
+// the set of the row's places, `last` is the last of these, and a name with `'` behind it is that bit of the row after one step. It is read as that form is:
+// behind lines that declare the bits, then the row, then the bits after the step. So the numbers of the sets are those of the bits, then the row's, then
+// those of the bits after.
+ghost use Rattle.std.specs.Prelude.{◌≡◌, ◌++◌, ◌↔◌, IfOk, IfSome, codes, map, string_bytes};
 ghost use Rattle.std.specs.Bool.{OnTrue};
 ghost use Rattle.formulas.specs.Meaning.{Env, Meaning};
 ghost use Rattle.resolve.specs.Asks.{all_hold};
 ghost use Rattle.resolve.specs.Says.{text as text_of};
 ghost use Rattle.rule_file.specs.Claims.{bytes_of};
-ghost use Rattle.rule_source.specs.Formulas.{AreOne, FormulaOf, declaration, declared, sets_of};
+ghost use Rattle.rule_source.specs.Formulas.{AreOne, FormulaOf, IsRow, before, declaration};
 ghost use Rattle.syntax.specs.Reads.{IsReadAs};
 
 use crate::bits::{Bits, word};
@@ -20,7 +21,7 @@ use syntax::parse::read;
 use tokens::kind::Kind;
 use tokens::token::tokens;
 use trees::position::Span;
-use trees::tree::{Item, Name, Sort};
+use trees::tree::{Item, Name, Row, Sort};
 
 /// What a formula speaks of.
 #[derive(Clone, Copy, Debug, PartialEq, Eq)]
@@ -31,21 +32,7 @@ pub enum About {
     Step,
 }
 
-// The names of the sets that a formula speaks of, by their numbers.
-fn sets_of(alloc: Global, bits: &Bits<'_>, about: About) -> Result<Vec<String>, AllocError>
-    ensures { IfOk result (λ all. map (λ s. string_bytes s) all.items ≡ sets_of about bits.now) }
-{
-    let mut sets = bits.set_names(alloc)?;
-    match about {
-        About::Step => Ok(sets),
-        About::Row => {
-            sets.truncate(bits.names.len() + 1);
-            Ok(sets)
-        }
-    }
-}
-
-// The line that declares the names.
+// A line that declares sets of these names.
 fn declaration(alloc: Global, names: &[String]) -> Result<String, AllocError>
     ensures { IfOk result (λ s. string_bytes s ≡ declaration (map (λ n. string_bytes n) names.now)) }
 {
@@ -53,7 +40,26 @@ fn declaration(alloc: Global, names: &[String]) -> Result<String, AllocError>
     format!(in alloc; "var2 {names};\n")
 }
 
-// A formula's text behind its declaration, and where in the file it begins.
+// The lines before a formula: the names of the bits, the row, and where it speaks of the row after the names of that row's bits.
+fn before(
+    alloc: Global,
+    about: About,
+    now: &[String],
+    after: &[String],
+) -> Result<String, AllocError>
+    ensures { IfOk result (λ s. string_bytes s ≡ before about (map (λ n. string_bytes n) now.now) (map (λ n. string_bytes n) after.now)) }
+{
+    let now = declaration(alloc, now)?;
+    match about {
+        About::Row => format!(in alloc; "{now}rows;\n"),
+        About::Step => {
+            let after = declaration(alloc, after)?;
+            format!(in alloc; "{now}rows;\n{after}")
+        }
+    }
+}
+
+// A formula's text behind the lines that stand before it, and where in the file it begins.
 #[derive(Drop)]
 struct Composed {
     text: String,
@@ -65,7 +71,7 @@ struct Composed {
 }
 
 impl Composed {
-    // The declaration and the formula: what a message may quote. Behind it the text ends.
+    // The lines before the formula, and the formula: what a message may quote. Behind it the text ends.
     fn quoted(&self) -> &[u8] {
         let bytes = self.text.as_bytes();
         &bytes[..self.end.min(bytes.len())]
@@ -86,15 +92,11 @@ impl Composed {
     }
 }
 
-fn compose(
-    alloc: Global,
-    bits: &Bits<'_>,
-    names: &[String],
-    formula: Token,
-) -> Result<Composed, Fault>
-    ensures { IfOk result (λ c. string_bytes c.text ≡ declared (map (λ n. string_bytes n) names.now) (bytes_of bits.now.text.now formula)) }
+// A formula behind these lines.
+fn compose(bits: &Bits<'_>, lines: String, formula: Token) -> Result<Composed, Fault>
+    ensures { IfOk result (λ c. string_bytes c.text ≡ string_bytes lines ++ bytes_of bits.now.text.now formula ++ codes "\n;\n") }
 {
-    let mut text = declaration(alloc, names)?;
+    let mut text = lines;
     let front = text.len();
     text.push_str(word(bits.text, formula)?)?;
     let end = text.len();
@@ -150,13 +152,36 @@ fn are_named(sets: &[Name], names: &[String]) -> bool
     set.text == *name && are_named(others, more)
 }
 
-// Whether the items are sets of those names and one formula. They are tested, since reading promises the items of some tokens that cover the text, and not
-// that a line of names has the tokens that it seems to have.
-fn are_one(items: &[Item], names: &[String]) -> bool
-    ensures { OnTrue result (AreOne items.now (map (λ n. string_bytes n) names.now)) }
+// Whether the row's places are called `row`, and its last place `last`.
+fn is_row(row: &Row) -> bool
+    ensures { OnTrue result (IsRow row.now) }
 {
-    match items {
-        [Item::Free(Sort::Set, sets), Item::Formula(_)] => are_named(sets, names),
+    row.places.text.as_str() == "row" && row.last.text.as_str() == "last"
+}
+
+// Whether the items are the bits, the row, the bits after the step where a formula speaks of these, and one formula. They are tested, since reading promises
+// the items of some tokens that cover the text, and not that a line of names has the tokens that it seems to have.
+fn are_one(about: About, items: &[Item], now: &[String], after: &[String]) -> bool
+    ensures { OnTrue result (AreOne about items.now (map (λ n. string_bytes n) now.now) (map (λ n. string_bytes n) after.now)) }
+{
+    match (about, items) {
+        (
+            About::Row,
+            [
+                Item::Free(Sort::Set, bits),
+                Item::Row(row),
+                Item::Formula(_),
+            ],
+        ) => are_named(bits, now) && is_row(row),
+        (
+            About::Step,
+            [
+                Item::Free(Sort::Set, bits),
+                Item::Row(row),
+                Item::Free(Sort::Set, next),
+                Item::Formula(_),
+            ],
+        ) => are_named(bits, now) && is_row(row) && are_named(next, after),
         _ => false,
     }
 }
@@ -197,11 +222,13 @@ pub fn formula_of(
 ) -> Result<Box<Formula>, Fault>
     ensures { IfOk result (λ f. FormulaOf bits.now about formula f.value) }
 {
-    let names = sets_of(alloc, bits, about)?;
-    let composed = compose(alloc, bits, &names, formula)?;
+    let now = bits.names_now(alloc)?;
+    let after = bits.names_after(alloc)?;
+    let lines = before(alloc, about, &now, &after)?;
+    let composed = compose(bits, lines, formula)?;
     check_one(alloc, &composed)?;
     let items = items_of(alloc, &composed)?;
-    if are_one(&items, &names) {
+    if are_one(about, &items, &now, &after) {
         if let Some(read) = claimed_in(alloc, &composed, &items)? {
             return Ok(read);
         }

@@ -51,6 +51,10 @@ fn faults_are_told(rt: HostRuntime) -> Result<(), Fail> {
         ),
         ("bits: row", "1:7: expected a name, found the word `row`"),
         (
+            "bits: tray last",
+            "1:12: expected a name, found `last`, which means something in formulas",
+        ),
+        (
             "bits: a b c d e f",
             "1:17: expected at most five bits, found `f`",
         ),

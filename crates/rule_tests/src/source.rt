@@ -49,9 +49,16 @@ fn patterns_and_lines(rt: HostRuntime) -> Result<(), Fail> {
     Ok(())
 }
 
-// All places p in set x are in set y, where p has the number that is free next.
-fn all_in(alloc: Global, p: u32, x: u32, then: Box<Formula>) -> Result<Box<Formula>, Fail> {
-    let implies = Box::new(alloc, Formula::Implies(place_in(alloc, p, x)?, then))?;
+// Of all places p of the row that are in set x something is so, where p has the number that is free next.
+fn all_in(
+    alloc: Global,
+    p: u32,
+    row: u32,
+    x: u32,
+    then: Box<Formula>,
+) -> Result<Box<Formula>, Fail> {
+    let inside = Box::new(alloc, Formula::Implies(place_in(alloc, p, x)?, then))?;
+    let implies = Box::new(alloc, Formula::Implies(place_in(alloc, p, row)?, inside))?;
     let all = Box::new(alloc, Formula::All1(p, implies))?;
     Ok(all)
 }
@@ -70,7 +77,7 @@ fn not_in(alloc: Global, p: u32, x: u32) -> Result<Box<Formula>, Fail> {
 fn formulas_and_claims(rt: HostRuntime) -> Result<(), Fail> {
     let alloc = rt.alloc();
     let source = source_of(alloc, RULE).ok().ok_or("a rule")?;
-    let limit = all_in(alloc, 3, 1, not_in(alloc, 3, 0)?)?;
+    let limit = all_in(alloc, 3, 2, 1, not_in(alloc, 3, 0)?)?;
     let [read] = source.rule.limits.as_slice() else {
         return Err(Fail::from("a limit"));
     };
@@ -81,7 +88,7 @@ fn formulas_and_claims(rt: HostRuntime) -> Result<(), Fail> {
     };
     assert!(rt; gap.name == "gap" && gap.put == Put::Never);
     assert!(rt; fork.name == "kept" && fork.put == Put::Claim);
-    let kept = all_in(alloc, 5, 1, place_in(alloc, 5, 4)?)?;
+    let kept = all_in(alloc, 5, 2, 1, place_in(alloc, 5, 4)?)?;
     match &fork.question.property {
         Property::Fails(formula) => assert!(rt; **formula == *kept),
         _ => return Err(Fail::from("a formula")),

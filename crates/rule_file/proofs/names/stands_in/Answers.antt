@@ -9,7 +9,7 @@ use Rattle.rule_file.proofs.names.stands_in.Goals as goal
 
 pub loop-other-preserved : goal.loop-other-preserved
 loop-other-preserved c =
-    apart_more c.args.text.now c.args.others.now c.args.name.now c.loop-other.other-index _ (omega arith) c.loop-other.invariant
+    apart_more c.args.text.now c.args.others.now (bytes_of c.args.text.now c.args.name.now) c.loop-other.other-index _ (omega arith) c.loop-other.invariant
     (differs c.bytes.result.now c.bytes-in-loop-other.result.now _ _ c.eq.result c.bytes.ensures c.bytes-in-loop-other.ensures
     (slice_eq-Decides Decides-eqb _ _ _ c.eq.ensures) c.if-eq.false)
 

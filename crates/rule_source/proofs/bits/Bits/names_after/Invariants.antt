@@ -1,0 +1,7 @@
+use Rattle.std.proofs.Common.{◌≡◌, ◌++◌, codes, map, take}
+use Rattle.std.specs.String.{string_bytes}
+use Rattle.rule_source.proofs.bits.Bits.names_after.Given as goal
+
+-- the names of the bits up to here, each with `'`
+abbrev pub invariant-loop-name : goal.invariant-loop-name
+invariant-loop-name l = map (λ s. string_bytes s) l.all.items ≡ map (λ w. w ++ codes "'") (map (λ n. n.now) (take l.name-index l.self.names.items))
