@@ -1,5 +1,5 @@
 -- What is said of some place or set, or of each, and where a row is spoken of, of those of the row.
-use Rattle.std.proofs.Common.{◌≡◌, ℕ, ◌<◌, Bool, true, ◌↔◌, Option, Some, None, List, sym, subst, ap, ◌∙◌}
+use Rattle.std.proofs.Common.{◌≡◌, ℕ, ◌<◌, Bool, true, ◌↔◌, Option, Some, None, List, sym, subst}
 use Rattle.claims.specs.Claims.{has}
 use Rattle.formulas.specs.Meaning.{Env, with_place, with_group}
 use Rattle.trees.specs.declared.tree.Sort.{Sort}

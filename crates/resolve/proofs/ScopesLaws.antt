@@ -1,5 +1,5 @@
 -- A scope whose terms do not depend on the names from a number on says the same whatever these stand for.
-use Rattle.std.proofs.Common.{◌≡◌, ℕ, suc, ◌<◌, Bool, ◌↔◌, Option, Some, None, is_some, List, ◌∷◌, sym, refl, ap, ◌∙◌, subst, arith}
+use Rattle.std.proofs.Common.{◌≡◌, ℕ, suc, Bool, ◌↔◌, Option, Some, None, is_some, List, ◌∷◌, sym, refl, ap, ◌∙◌, subst, arith}
 use Rattle.trees.specs.declared.tree.Name.{Name}
 use Rattle.trees.specs.declared.tree.ExprKind.{ExprKind}
 use Rattle.formulas.specs.Meaning.{Env, with_place, with_group}

@@ -11,8 +11,8 @@ ghost use Rattle.resolve.specs.Faults.{Faulty, FaultyText, RowAgain, with_row, N
 ghost use Rattle.resolve.specs.declared.fault.Class.TheVariants.{Formula as OfFormula};
 ghost use Rattle.resolve.specs.Asks.{Asks, AsksMore, Written, declared};
 
-use crate::fault::Fault;
 use crate::built::most;
+use crate::fault::Fault;
 use crate::scope::{Free, Kind, Scope, Term, defined, is_in_row, named};
 use crate::statements::numbered;
 use crate::terms::{MOST_CALLS, MOST_PARTS, Resolver, inner};

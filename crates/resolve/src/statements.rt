@@ -150,14 +150,7 @@ impl Resolver {
         let term = numbered(self.heap, sort, level)?;
         let inside = Scope::Named(first, &term, &*scope);
         let formula = self.bound(quantifier, sort, others, &*body, &inside, next, calls)?;
-        Ok(over(
-            self.heap,
-            quantifier,
-            sort,
-            level,
-            row_of(scope),
-            formula,
-        )?)
+        Ok(over(self.heap, quantifier, sort, level, row_of(scope), formula)?)
     }
 
     // A predicate's body, in the scope of its declaration, its parameters standing for the arguments, which are read in the scope of the call.

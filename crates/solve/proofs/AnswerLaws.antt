@@ -1,5 +1,5 @@
 -- What is found of the two claims is what is answered of the text.
-use Rattle.std.proofs.Common.{◌≡◌, ℕ, ◌⊎◌, ◌↔◌, List, [], ◌∷◌, ◌++◌, length, map, Option, Some, None, sym, refl, ap, ◌∙◌, subst, inl, inr, arith}
+use Rattle.std.proofs.Common.{◌≡◌, ℕ, ◌⊎◌, ◌↔◌, List, [], ◌∷◌, ◌++◌, length, Option, Some, None, sym, refl, ap, ◌∙◌, subst, inl, inr, arith}
 use Rattle.words.specs.Words.{Word, sets}
 use Rattle.automata.proofs.Told.{told}
 use Rattle.claims.specs.Claims.{Of}
@@ -20,7 +20,7 @@ use Rattle.first_word.specs.declared.first_word.Found.TheVariants.{Nothing, Firs
 use Rattle.solve.specs.Telling.{HoldsOf as RowOf, Tells}
 use Rattle.solve.specs.Questions.{HoldsOf, FailsOf, Puts, names_of, others_in, others_if, others_of, row_in, row_name, InRowIf}
 use Rattle.solve.specs.Answers.{shown, unmarked, IsRow, FirstRow, RowShows, FirstShown, Large, Answers}
-use Rattle.solve.specs.declared.answer.Answer.TheVariants.{Always, Unmet, Never, Both}
+use Rattle.solve.specs.declared.answer.Answer.TheVariants.{Always, Unmet, Never}
 use Rattle.solve.proofs.TellingLaws.{columns_wider}
 use Rattle.solve.proofs.TextLaws.{text_same}
 use Rattle.solve.proofs.RowLaws.{At, numbered, numbered_at, plain_names, shown_alike, is_row, singles_of, numbered_length}

@@ -1,10 +1,10 @@
 -- Names that differ stand at their places in a list; the declared names and the row differ.
-use Rattle.std.proofs.Common.{◌≡◌, ℕ, zero, suc, ◌+◌, ◌<◌, ◌≤◌, List, [], ◌∷◌, ◌++◌, length, Option, Some, None, inl, inr, refl, sym, ap, subst, ◌∙◌, arith}
+use Rattle.std.proofs.Common.{◌≡◌, ℕ, zero, suc, ◌+◌, ◌<◌, ◌≤◌, List, [], ◌∷◌, ◌++◌, length, inl, inr, refl, sym, ap, ◌∙◌, arith}
 use Rattle.formulas.specs.declared.name.Name.{Name as Numbered}
 use Rattle.formulas.specs.declared.name.Name.TheVariants.{OfPlace, OfGroup}
 use Rattle.formulas.specs.Names.{Among}
 use Rattle.formulas.proofs.NamesLaws.{name_tells}
-use Rattle.formula_claims.specs.Listed.{position_of, listed}
+use Rattle.formula_claims.specs.Listed.{position_of}
 use Rattle.trees.specs.declared.tree.Name.{Name}
 use Rattle.resolve.specs.declared.scope.Kind.{Kind}
 use Rattle.resolve.specs.declared.scope.Kind.TheVariants.{Place, Set, Row}

@@ -1,8 +1,8 @@
 -- A text that speaks of a row: its claim holds of the sets that are a row that shows what is asked, so its first word is the first such row.
-use Rattle.std.proofs.Common.{◌≡◌, ℕ, zero, suc, ◌+◌, ◌%◌, ◌^◌, ◌<◌, ◌≤◌, Bool, true, ◌↔◌, List, [], ◌∷◌, ◌++◌, map, length, Some, inl, inr, refl, sym, ap, subst, ◌∙◌, arith, ltb→lt, lt→ltb}
+use Rattle.std.proofs.Common.{◌≡◌, ℕ, zero, suc, ◌+◌, ◌%◌, ◌^◌, ◌<◌, ◌≤◌, true, ◌↔◌, List, [], ◌∷◌, ◌++◌, map, length, inl, inr, refl, sym, ap, subst, ◌∙◌, arith, lt→ltb}
 use native.Mathlib.Decide.{dec_lt}
 use Rattle.words.specs.Words.{Sets, Word, bit, sets, Columns}
-use Rattle.claims.specs.Claims.{has, Holds, Of}
+use Rattle.claims.specs.Claims.{has, Of}
 use Rattle.kinds.specs.Relations.{Only}
 use Rattle.formulas.specs.declared.name.Name.{Name as Numbered}
 use Rattle.formulas.specs.declared.name.Name.TheVariants.{OfPlace, OfGroup}
@@ -20,7 +20,7 @@ use Rattle.formulas.proofs.NamesLaws.{among_left}
 use Rattle.formula_claims.specs.Claimed.{Claimed, whole, sets_needed}
 use Rattle.trees.specs.declared.tree.Sort.TheVariants.{Place, Set}
 use Rattle.resolve.specs.Scopes.{Bound}
-use Rattle.rows.specs.RowClaims.{below, same_number, Gives, marked, First, Tells}
+use Rattle.rows.specs.RowClaims.{below, same_number, Gives, marked, First}
 use Rattle.rows.proofs.RowShape.{row_of_sets}
 use Rattle.rows.proofs.StepLaws.{sets_below}
 use Rattle.rows.proofs.Telling.{marked_gives, tells_of}

@@ -8,7 +8,7 @@ use Rattle.trees.specs.declared.tree.Item.{Item}
 use Rattle.trees.specs.declared.tree.Item.TheVariants.{Free, Row, Predicate as defined, Assert, Formula}
 use Rattle.trees.specs.declared.tree.Sort.TheVariants.{Place, Set}
 use Rattle.formulas.specs.Sets.{highest}
-use Rattle.resolve.specs.Says.{Context, Value, Text, holds, bind, place, set, with_row, in_row, define, given, declare, count, text_from}
+use Rattle.resolve.specs.Says.{Context, Text, holds, bind, place, set, with_row, in_row, define, given, declare, count, text_from}
 use Rattle.resolve.specs.Kinds.{kind_of}
 use Rattle.resolve.specs.declared.scope.Kind.{Kind}
 use Rattle.resolve.specs.declared.scope.Kind.TheVariants as kind

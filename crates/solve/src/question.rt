@@ -66,11 +66,7 @@ fn posed(alloc: Global, asked: Asked<'_>, opposite: bool) -> Result<Box<Formula>
 }
 
 // The bytes of the claim, or of its opposite, under the assumptions; and where a row is spoken of, how many places and sets are declared besides.
-fn bytes(
-    alloc: Global,
-    items: &[Item],
-    opposite: bool,
-) -> Result<(Vec<u8>, Option<usize>), Stop>
+fn bytes(alloc: Global, items: &[Item], opposite: bool) -> Result<(Vec<u8>, Option<usize>), Stop>
     ensures short { IfOk result (λ b. length b.0.items ≤ 1024) }
     ensures puts { IfOk result (λ b. Puts (names_of items.now) (λ e. either opposite (FailsOf items.now e) (HoldsOf items.now e)) b.0.items) }
     ensures others { IfOk result (λ b. b.1 ≡ others_of items.now) }

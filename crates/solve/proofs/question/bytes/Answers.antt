@@ -1,10 +1,10 @@
-use Rattle.std.proofs.Common.{◌≡◌, ◌++◌, ◌∙◌, ◌↔◌, ap, sym, subst}
+use Rattle.std.proofs.Common.{◌≡◌, ◌++◌, ◌∙◌, ◌↔◌, ap, subst}
 use Rattle.formulas.specs.Meaning.{Meaning}
 use Rattle.formula_claims.specs.Claimed.{Claimed}
 use Rattle.resolve.specs.Says.{text}
 use Rattle.resolve.specs.Asks.{free, all_hold}
 use Rattle.resolve.proofs.Iff.{iff_trans, iff_and}
-use Rattle.solve.specs.Questions.{others, others_in, row_from, row_in, row_name, names_of, InRowIf}
+use Rattle.solve.specs.Questions.{others, others_in, row_from, row_in, row_name, InRowIf}
 use Rattle.solve.proofs.QuestionLaws.{posed_says}
 use Rattle.solve.proofs.question.bytes.Goals as goal
 
@@ -23,9 +23,9 @@ returns-clause-puts c =
       formula = whole;
       claimed = subst (λ l. Claimed l whole c.in_ok-bytes.bytes.items) names (rw c.deref-3.ensures at c.in_ok-bytes.ensures);
       means = λ e. (
-        let placed = subst (λ l. Meaning whole e ↔ (InRowIf c.in_ok-row.row l e × Meaning inner e)) (c.deref-2.ensures.value ∙ front) (c.in_ok-formula-2.ensures e) in
-        let rowed = subst (λ o. Meaning whole e ↔ (InRowIf o (others_in items) e × Meaning inner e)) row placed in
-        iff_trans (iff_trans rowed (iff_and (λ h. h, λ h. h) (c.in_ok-formula.ensures e)))
-        (posed_says c.args.opposite (InRowIf (row_in items) (others_in items) e) (all_hold asked.assumed.items e) (all_hold asked.claimed.items e) (text items e).assumed (text items e).claimed (asks.assumed e) (asks.claimed e))
-      );
+          let placed = subst (λ l. Meaning whole e ↔ (InRowIf c.in_ok-row.row l e × Meaning inner e)) (c.deref-2.ensures.value ∙ front) (c.in_ok-formula-2.ensures e) in
+          let rowed = subst (λ o. Meaning whole e ↔ (InRowIf o (others_in items) e × Meaning inner e)) row placed in
+          iff_trans (iff_trans rowed (iff_and (λ h. h, λ h. h) (c.in_ok-formula.ensures e)))
+          (posed_says c.args.opposite (InRowIf (row_in items) (others_in items) e) (all_hold asked.assumed.items e) (all_hold asked.claimed.items e) (text items e).assumed (text items e).claimed (asks.assumed e) (asks.claimed e))
+          );
     }

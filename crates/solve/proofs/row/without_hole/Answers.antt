@@ -1,4 +1,3 @@
-use Rattle.std.proofs.Common.{subst}
 use Rattle.formulas.specs.Meaning.{with_place}
 use Rattle.resolve.proofs.Iff.{if_ok}
 use Rattle.solve.proofs.row.without_hole.Goals as goal

@@ -120,11 +120,16 @@ pub row-items-requires : goal.row-items-requires
 row-items-requires t c =
     let n = c.args.level in
     let e : c.in-Some.next ≡ suc n = omega (arith, c.in-Some.ensures) in
-    let below : n < c.in-Some.next = omega (arith, c.in-Some.ensures) in
-    (search rules, (below, (
-      λ e f a. c.in_ok-last.ensures.means e ∙ (ap (λ u. place (highest u)) (a n below).1 ∙ sym (c.in_ok-last.ensures.means f)),
-      (subst (λ m. Settled m c.in_ok-places.places) (sym e) (subst (λ m. Settled m c.in_ok-places.places) (add-one n) c.in_ok-places.ensures.settled), subst (λ m. Steady m c.args.scope.now) (sym e) (steady_more n c.args.scope.now c.requires)),
-    )))
+    let below : n < c.in-Some.next = omega (arith, c.in-Some.ensures) in (
+      search rules,
+      (
+        below,
+        (
+          λ e f a. c.in_ok-last.ensures.means e ∙ (ap (λ u. place (highest u)) (a n below).1 ∙ sym (c.in_ok-last.ensures.means f)),
+          (subst (λ m. Settled m c.in_ok-places.places) (sym e) (subst (λ m. Settled m c.in_ok-places.places) (add-one n) c.in_ok-places.ensures.settled), subst (λ m. Steady m c.args.scope.now) (sym e) (steady_more n c.args.scope.now c.requires)),
+        ),
+      ),
+    )
 
 pub row-returns-clause-says : goal.row-returns-clause-says
 row-returns-clause-says t c =
