@@ -1,14 +1,14 @@
 -- What is reported of a text that is read.
-use Rattle.std.specs.Prelude.{◌≡◌, ℕ, List, ◌++◌, map, string_bytes, codes}
+use Rattle.std.specs.Prelude.{◌≡◌, ℕ, List, ◌++◌, codes}
 use Rattle.std.specs.Fmt.{decimal}
 use Rattle.display.specs.Hex.{hex_of}
 use Rattle.workspace.specs.Floor.{Room}
 use Rattle.trees.specs.declared.tree.Item.{Item}
-use Rattle.resolve.specs.Asks.{declared}
 use Rattle.solve.specs.declared.answer.Answer.{Answer}
 use Rattle.solve.specs.Answers.{Answers}
 use Rattle.solve.specs.Questions.{HoldsOf, FailsOf, Puts, names_of as names_in}
 use Rattle.claim_report.specs.Subjects.{nothing, subject_from}
+use Rattle.claim_report.specs.Named.{names_of, line_names}
 use Rattle.claim_report.specs.Told.{told_of, columns_told}
 use Rattle.claim_report.specs.Placed.{IsPlaceOf, IsTooLarge}
 use Rattle.claim_report.specs.Drawn.{IsAutomaton, IsDrawn}
@@ -20,12 +20,9 @@ use Rattle.claim_report.specs.declared.report.Form.TheVariants.{Rows, Columns}
 use Rattle.claim_report.specs.declared.report.Wish.{Wish}
 use Rattle.claim_report.specs.declared.report.Wish.TheVariants.{Answer as Asked, Automaton, Bytes}
 
-abbrev pub names_of : List Item → List (List ℕ)
-names_of items = map (λ d. string_bytes d.0.text) (declared items)
-
 -- how an answer is told
 abbrev pub told : Form → List Item → Answer → List ℕ
-told Rows items a = told_of (subject_from nothing items) (names_of items) a
+told Rows items a = let s = subject_from nothing items in told_of s (line_names s.row (names_of items)) a
 told Columns items a = columns_told a
 
 -- a line of the line tool

@@ -15,13 +15,17 @@ kind_of true false = codes "places"
 kind_of false _ = codes "sets"
 
 abbrev pub subject_of : Subject → List ℕ
-subject_of s = kind_of s.places s.sets ++ (if s.assumes then codes " that meet the assumptions" else [])
+subject_of s = (if s.row then codes "rows" else kind_of s.places s.sets) ++ (if s.assumes then codes " that meet the assumptions" else [])
 
--- a word as rows of marks, or that it has no places
-abbrev pub word_of : List (List ℕ) → Word → List ℕ
-word_of names w = if length w == 0 then codes " of: nothing anywhere (0 places).\n" else
-    if length w == 1 then codes ", of 1 place:\n" ++ shown names w else
-    codes ", of " ++ (decimal (length w) ++ (codes " places:\n" ++ shown names w))
+-- that a word has no places
+abbrev pub empty_of : Bool → List ℕ
+empty_of row = codes " of: " ++ ((if row then codes "the empty row" else codes "nothing anywhere") ++ codes " (0 places).\n")
+
+-- a word as rows of marks, with both ends if it is a row, or that it has no places
+abbrev pub word_of : Bool → List (List ℕ) → Word → List ℕ
+word_of row names w = if length w == 0 then empty_of row else
+    if length w == 1 then codes ", of 1 place:\n" ++ shown row names w else
+    codes ", of " ++ (decimal (length w) ++ (codes " places:\n" ++ shown row names w))
 
 -- of no names, of some
 abbrev pub by_names : List (List ℕ) → List ℕ → List ℕ → List ℕ
@@ -33,8 +37,8 @@ too_large n = codes "too large: more than " ++ (decimal n ++ codes " classes are
 
 abbrev pub both_of : Subject → List (List ℕ) → Word → Word → List ℕ
 both_of s names u v = codes "both " ++ (decimal (length u) ++ (codes " " ++ (decimal (length v) ++ codes "\n")))
-    ++ (codes "It holds of some " ++ (subject_of s ++ (codes " and not of others. First" ++ word_of names u))
-    ++ (codes "It does not hold first" ++ word_of names v))
+    ++ (codes "It holds of some " ++ (subject_of s ++ (codes " and not of others. First" ++ word_of s.row names u))
+    ++ (codes "It does not hold first" ++ word_of s.row names v))
 
 abbrev pub told_of : Subject → List (List ℕ) → Answer → List ℕ
 told_of s names Always = by_names names (codes "always\nIt holds.\n") (codes "always\nIt holds of all " ++ (subject_of s ++ codes ".\n"))

@@ -2,7 +2,7 @@
 ghost use Rattle.std.specs.Prelude.{IfOk};
 ghost use Rattle.claim_report.specs.Drawn.{IsAutomaton, IsDrawn};
 
-use crate::declared::names_of;
+use crate::declared::set_names;
 use crate::stop::Stop;
 use minimal::automaton::Automaton;
 use minimal::automaton_of::automaton_of;
@@ -29,7 +29,7 @@ pub enum Smallest {
     TooLarge(u32),
 }
 
-/// The smallest automaton of a text's claim under its assumptions, whose set x is that of the x-th declared name. It is worked out with at most so many classes told apart, or as many as there is memory for. Fails where the text says nothing, where its claim takes too many bytes or sets, where more classes are wanted than there is memory for, and for memory.
+/// The smallest automaton of a text's claim under its assumptions, whose set x is that of the x-th declared name; the row, where one is spoken of, is the set behind these. It is worked out with at most so many classes told apart, or as many as there is memory for. Fails where the text says nothing, where its claim takes too many bytes or sets, where more classes are wanted than there is memory for, and for memory.
 pub fn smallest_automaton(
     alloc: Global,
     items: &[Item],
@@ -59,7 +59,7 @@ pub fn drawn(
 ) -> Result<String, Stop>
     ensures { IfOk result (λ _. IsDrawn items.now automaton.now) }
 {
-    let names = names_of(alloc, items)?;
+    let names = set_names(alloc, items)?;
     let diagram = match state_diagram(alloc, automaton, &names) {
         Ok(diagram) => diagram,
         Err(Undrawn::OutOfMemory) => return Err(Stop::Memory),

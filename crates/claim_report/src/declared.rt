@@ -1,6 +1,7 @@
 // What a text declares and assumes.
 ghost use Rattle.std.specs.Prelude.{◌≡◌, ◌++◌, map, string_bytes, IfOk, OnOk};
 ghost use Rattle.resolve.specs.Asks.{declared};
+ghost use Rattle.claim_report.specs.Named.{names_of, row_names};
 ghost use Rattle.claim_report.specs.Subjects.{nothing, subject_from};
 
 use crate::told::Subject;
@@ -19,15 +20,30 @@ fn push_names<'t>(all: &mut Vec<&'t str>, names: &'t [Name]) -> Result<(), Alloc
     Ok(())
 }
 
-/// The declared names, in the order of declaration. Fails for memory.
+/// The names of the declared places and sets, in the order of declaration. Fails for memory.
 pub fn names_of<'t>(alloc: Global, items: &'t [Item]) -> Result<Vec<&'t str>, AllocError>
-    ensures { IfOk result (λ names. map (λ n. n.now) names.items ≡ map (λ d. string_bytes d.0.text) (declared items.now)) }
+    ensures { IfOk result (λ names. map (λ n. n.now) names.items ≡ names_of items.now) }
 {
     let mut all = Vec::new(alloc);
     let mut rest = items;
     while let [item, more @ ..] = rest {
         if let Item::Free(_, names) = item {
             push_names(&mut all, names)?;
+        }
+        rest = more;
+    }
+    Ok(all)
+}
+
+/// The names of the sets of the text's claim: those of the declared places and sets, and behind them that of the row, if one is spoken of. Fails for memory.
+pub fn set_names<'t>(alloc: Global, items: &'t [Item]) -> Result<Vec<&'t str>, AllocError>
+    ensures { IfOk result (λ names. map (λ n. n.now) names.items ≡ names_of items.now ++ row_names (declared items.now)) }
+{
+    let mut all = names_of(alloc, items)?;
+    let mut rest = items;
+    while let [item, more @ ..] = rest {
+        if let Item::Row(row) = item {
+            all.push(row.places.text.as_str())?;
         }
         rest = more;
     }
@@ -41,6 +57,7 @@ pub fn subject_of(items: &[Item]) -> Subject
     let mut subject = Subject {
         places: false,
         sets: false,
+        row: false,
         assumes: false,
     };
     let mut rest = items;
@@ -48,6 +65,7 @@ pub fn subject_of(items: &[Item]) -> Subject
         match item {
             Item::Free(Sort::Place, _) => subject.places = true,
             Item::Free(Sort::Set, _) => subject.sets = true,
+            Item::Row(_) => subject.row = true,
             Item::Assert(_) => subject.assumes = true,
             Item::Predicate(_) | Item::Formula(_) => {}
         }

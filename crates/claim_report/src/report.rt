@@ -90,9 +90,13 @@ fn in_columns(alloc: Global, answer: &Answer) -> Result<String, AllocError>
 fn in_words(alloc: Global, items: &[Item], answer: &Answer) -> Result<String, AllocError>
     ensures { IfOk result (λ words. string_bytes words ≡ told Rows items.now answer.now) }
 {
-    let names = names_of(alloc, items)?;
+    let subject = subject_of(items);
+    let mut names = names_of(alloc, items)?;
+    if subject.row && names.is_empty() {
+        names.push("")?;
+    }
     let told = Told {
-        subject: subject_of(items),
+        subject,
         names: &names,
         answer,
     };

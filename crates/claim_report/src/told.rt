@@ -7,11 +7,12 @@ use display::marks::Marks;
 use solve::answer::Answer;
 use std::fmt;
 
-/// What a text's claim is about: whether places and whether sets are declared, and whether something is assumed of them.
+/// What a text's claim is about: whether places and whether sets are declared, whether they are those of a row, and whether something is assumed of them.
 #[derive(Clone, Copy, Debug, PartialEq, Eq)]
 pub struct Subject {
     pub places: bool,
     pub sets: bool,
+    pub row: bool,
     pub assumes: bool,
 }
 
@@ -19,10 +20,11 @@ impl fmt::Display for Subject {
     ghost output = { λ subject. Some (subject_of subject) };
 
     fn fmt<W: fmt::Write>(&self, f: &mut fmt::Formatter<W>) -> fmt::Result {
-        let kind = match (self.places, self.sets) {
-            (true, true) => "places and sets",
-            (true, false) => "places",
-            _ => "sets",
+        let kind = match (self.row, self.places, self.sets) {
+            (true, _, _) => "rows",
+            (false, true, true) => "places and sets",
+            (false, true, false) => "places",
+            (false, false, _) => "sets",
         };
         let condition = if self.assumes {
             " that meet the assumptions"
@@ -33,24 +35,31 @@ impl fmt::Display for Subject {
     }
 }
 
-/// A word as rows of marks, or that it has no places.
+/// A word as rows of marks, with both ends if it is a row, or that it has no places.
 #[derive(Clone, Copy, Debug)]
 struct Word<'n, 't, 'w> {
+    row: bool,
     names: &'n [&'t str],
     word: &'w [u32],
 }
 
 impl fmt::Display for Word<'_, '_, '_> {
-    ghost output = { λ w. Some (word_of (map (λ name. name.now) w.names.now) w.word.now) };
+    ghost output = { λ w. Some (word_of w.row (map (λ name. name.now) w.names.now) w.word.now) };
 
     fn fmt<W: fmt::Write>(&self, f: &mut fmt::Formatter<W>) -> fmt::Result {
         let marks = Marks {
             names: self.names,
             word: self.word,
+            ends: self.row,
         };
         let count = self.word.len();
         if count == 0 {
-            write!(f, " of: nothing anywhere (0 places).\n")
+            let empty = if self.row {
+                "the empty row"
+            } else {
+                "nothing anywhere"
+            };
+            write!(f, " of: {empty} (0 places).\n")
         } else if count == 1 {
             write!(f, ", of 1 place:\n{marks}")
         } else {
@@ -76,10 +85,12 @@ impl fmt::Display for Both<'_, '_, '_> {
         let a = self.first.len();
         let b = self.second.len();
         let first = Word {
+            row: subject.row,
             names: self.names,
             word: self.first,
         };
         let second = Word {
+            row: subject.row,
             names: self.names,
             word: self.second,
         };
