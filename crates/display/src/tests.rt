@@ -29,12 +29,14 @@ fn rows_stand_under_a_ruler(rt: HostRuntime) -> Result<(), Fail> {
     let short = Marks {
         names: &["left", "b"],
         word: &[1, 2, 3],
+        ends: false,
     };
     let text = format!(in rt.alloc(); "{short}")?;
     assert_eq!(rt; text.as_str(), "         012\n    left #.#\n    b    .##\n");
     let long = Marks {
         names: &["x"],
         word: &[1, 0, 0, 0, 0, 0, 0, 0, 0, 0, 1, 0],
+        ends: false,
     };
     let text = format!(in rt.alloc(); "{long}")?;
     assert_eq!(rt;
@@ -44,6 +46,7 @@ fn rows_stand_under_a_ruler(rt: HostRuntime) -> Result<(), Fail> {
     let none = Marks {
         names: &["x"],
         word: &[],
+        ends: false,
     };
     let text = format!(in rt.alloc(); "{none}")?;
     assert_eq!(rt; text.as_str(), "");
