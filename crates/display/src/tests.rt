@@ -29,12 +29,14 @@ fn rows_stand_under_a_ruler(rt: HostRuntime) -> Result<(), Fail> {
     let short = Marks {
         names: &["left", "b"],
         word: &[1, 2, 3],
+        ends: false,
     };
     let text = format!(in rt.alloc(); "{short}")?;
     assert_eq!(rt; text.as_str(), "         012\n    left #.#\n    b    .##\n");
     let long = Marks {
         names: &["x"],
         word: &[1, 0, 0, 0, 0, 0, 0, 0, 0, 0, 1, 0],
+        ends: false,
     };
     let text = format!(in rt.alloc(); "{long}")?;
     assert_eq!(rt;
@@ -44,9 +46,80 @@ fn rows_stand_under_a_ruler(rt: HostRuntime) -> Result<(), Fail> {
     let none = Marks {
         names: &["x"],
         word: &[],
+        ends: false,
     };
     let text = format!(in rt.alloc(); "{none}")?;
     assert_eq!(rt; text.as_str(), "");
+    Ok(())
+}
+
+#[test]
+fn ends_stand_beside_the_marks(rt: HostRuntime) -> Result<(), Fail> {
+    let short = Marks {
+        names: &["a", "bb"],
+        word: &[1, 2, 0],
+        ends: true,
+    };
+    let text = format!(in rt.alloc(); "{short}")?;
+    assert_eq!(rt; text.as_str(), "        012\n    a  |#..|\n    bb |.#.|\n");
+    let one = Marks {
+        names: &["x"],
+        word: &[1],
+        ends: true,
+    };
+    let text = format!(in rt.alloc(); "{one}")?;
+    assert_eq!(rt; text.as_str(), "       0\n    x |#|\n");
+    let none = Marks {
+        names: &["x"],
+        word: &[],
+        ends: true,
+    };
+    let text = format!(in rt.alloc(); "{none}")?;
+    assert_eq!(rt; text.as_str(), "");
+    Ok(())
+}
+
+// The rulers of 60 places from place 0 and from place 60 on, behind the margin of one sign's name, and 60 marks of which the first is set.
+const RULER: &str =
+    "       0         10        20        30        40        50\n       012345678901234567890123456789012345678901234567890123456789\n";
+
+const SECOND_RULER: &str =
+    "       60        70        80        90        100       110\n       012345678901234567890123456789012345678901234567890123456789\n";
+
+const MARKS: &str = "#...........................................................";
+
+#[test]
+fn ends_of_a_long_row_stand_on_its_first_and_last_line(rt: HostRuntime) -> Result<(), Fail> {
+    let mut word = [0; 121];
+    word[0] = 1;
+    word[60] = 1;
+    word[120] = 1;
+    let sixty = Marks {
+        names: &["x"],
+        word: &word[..60],
+        ends: true,
+    };
+    let text = format!(in rt.alloc(); "{sixty}")?;
+    let wanted = format!(in rt.alloc(); "{RULER}    x |{MARKS}|\n")?;
+    assert_eq!(rt; text.as_str(), wanted.as_str());
+    let more = Marks {
+        names: &["x"],
+        word: &word[..61],
+        ends: true,
+    };
+    let text = format!(in rt.alloc(); "{more}")?;
+    let wanted = format!(in rt.alloc(); "{RULER}    x |{MARKS}\n       60\n       0\n    x  #|\n")?;
+    assert_eq!(rt; text.as_str(), wanted.as_str());
+    let three_lines = Marks {
+        names: &["x"],
+        word: &word,
+        ends: true,
+    };
+    let text = format!(in rt.alloc(); "{three_lines}")?;
+    let wanted = format!(in rt.alloc();
+        "{RULER}    x |{MARKS}\n{SECOND_RULER}    x  {MARKS}\n       120\n       0\n    x  #|\n"
+    )?;
+    assert_eq!(rt; text.as_str(), wanted.as_str());
     Ok(())
 }
 

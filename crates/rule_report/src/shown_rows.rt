@@ -67,6 +67,7 @@ impl fmt::Display for Rows<'_, '_, '_> {
             let marks = Marks {
                 names: self.names,
                 word: row.as_slice(),
+                ends: false,
             };
             write!(f, "{step}{marks}")?;
         }

@@ -10,5 +10,5 @@ loop-k-preserved g c = λ plain.
     let written = c.write.ensures.writes before.plain (search rules) in
     let names = map (λ name. name.now) c.args.self.now.names.now in
     let within : 60 * c.loop-k.k ≤ length c.args.self.now.word.now = grind (arith, common_steps, c.div_ceil-k-end.ensures, c.loop-k-test.true) in
-    has_written_of_eq _ _ _ _ _ (blocks_of-more names c.args.self.now.word.now c.loop-k.k c.min.result within c.min.ensures)
+    has_written_of_eq _ _ _ _ _ (blocks_of-more c.args.self.now.ends names c.args.self.now.word.now c.loop-k.k c.min.result within c.min.ensures)
     (has_written_append _ _ _ _ _ _ before written)

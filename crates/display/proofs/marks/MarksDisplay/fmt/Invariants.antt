@@ -5,4 +5,4 @@ use Rattle.display.proofs.marks.MarksDisplay.fmt.Given as goal
 
 abbrev pub invariant-loop-k : goal.invariant-loop-k
 invariant-loop-k g l =
-    IsPlainFormatter l.fn.f → HasWritten g.W.Write.write_str_gives l.fn.f (blocks_of (map (λ name. name.now) l.self.names.now) l.self.word.now l.k) l.f
+    IsPlainFormatter l.fn.f → HasWritten g.W.Write.write_str_gives l.fn.f (blocks_of l.self.ends (map (λ name. name.now) l.self.names.now) l.self.word.now l.k) l.f

@@ -8,5 +8,5 @@ loop-k-preserved g c = λ plain.
     let before = c.loop-k.invariant plain in
     let number = number_written c.laid_out.result (c.args.self.now.from + 10 * c.loop-k.k) c.laid_out.ensures in
     let written = c.write-in-loop-k.ensures.writes before.plain (search rules) in
-    has_written_of_eq _ _ _ _ _ (tens_before-more c.args.self.now.width c.args.self.now.from c.loop-k.k)
+    has_written_of_eq _ _ _ _ _ (tens_before-more c.args.self.now.width c.args.self.now.ends c.args.self.now.from c.loop-k.k)
     (has_written_append _ _ _ _ _ _ before (has_written_of_eq _ _ _ _ _ number written))

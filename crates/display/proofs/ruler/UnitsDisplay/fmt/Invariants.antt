@@ -5,4 +5,4 @@ use Rattle.display.proofs.ruler.UnitsDisplay.fmt.Given as goal
 
 abbrev pub invariant-loop-place : goal.invariant-loop-place
 invariant-loop-place g l =
-    IsPlainFormatter l.fn.f → HasWritten g.W.Write.write_str_gives l.fn.f (margin l.self.width ++ units_before l.place) l.f
+    IsPlainFormatter l.fn.f → HasWritten g.W.Write.write_str_gives l.fn.f (margin l.self.width l.self.ends ++ units_before l.place) l.f
