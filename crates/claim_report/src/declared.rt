@@ -42,8 +42,10 @@ pub fn set_names<'t>(alloc: Global, items: &'t [Item]) -> Result<Vec<&'t str>, A
     let mut all = names_of(alloc, items)?;
     let mut rest = items;
     while let [item, more @ ..] = rest {
-        if let Item::Row(row) = item {
-            all.push(row.places.text.as_str())?;
+        match item {
+            Item::Row(row) => all.push(row.places.text.as_str())?,
+            Item::Free(_, _) => {}
+            Item::Predicate(_) | Item::Assert(_) | Item::Formula(_) => {}
         }
         rest = more;
     }
