@@ -25,8 +25,8 @@ pub names_length : (l : List (Name × Kind)) → length (other_names l ++ row_na
 names_length l = both l
   where
     append_length : (k m : List (List ℕ)) → length (k ++ m) ≡ length k + length m
-    append_length [] m = refl
-    append_length (x ∷ k) m = ap suc (append_length k m)
+    append_length [] m = let e : length m ≡ 0 + length m = omega arith in e
+    append_length (x ∷ k) m = let e = append_length k m in omega arith
 
     one : (k : Kind) (x : List ℕ) → length (other_name k x) + length (row_name k x) ≡ 1
     one kind.Place x = refl
