@@ -1,0 +1,86 @@
+-- Bytes say at most one ring claim: they are those of the row claim with the same signs, and that tells the ring claim.
+use Rattle.std.proofs.Common.{◌≡◌, ℕ, zero, suc, List, [], ◌∷◌, ◌++◌, sym, refl, ap, ap₂, ◌∙◌, subst, append_assoc, append-nil}
+use Rattle.kinds.specs.declared.atom.Atom.TheVariants.{Related, Counted}
+use Rattle.kinds.specs.declared.relation.Relation.TheVariants.{Within, Single, Next, Before}
+use Rattle.row_claims.specs.Meaning.{RowClaim}
+use Rattle.row_claims.specs.Meaning as rows
+use Rattle.row_claims.specs.Bytes.{row_bytes}
+use Rattle.row_claims.proofs.OneRowClaim as row_laws
+use Rattle.ring_claims.specs.Meaning.{RingClaim, within, single, next, multiple, not1, and1, some}
+use Rattle.ring_claims.specs.Bytes.{ring_bytes}
+use Rattle.ring_claims.specs.Laws.{OneRingClaim}
+
+-- the same signs, read as a row claim
+same_signs : RingClaim → RowClaim
+same_signs (within x y) = rows.atom (Related (Within x y))
+same_signs (single x) = rows.atom (Related (Single x))
+same_signs (next x y) = rows.atom (Related (Next x y))
+same_signs (multiple m) = rows.atom (Counted m)
+same_signs (not1 c) = rows.not1 (same_signs c)
+same_signs (and1 c d) = rows.and1 (same_signs c) (same_signs d)
+same_signs (some x c) = rows.some x (same_signs c)
+
+same_bytes : (c : RingClaim) → row_bytes (same_signs c) ≡ ring_bytes c
+unfolding same_signs
+same_bytes (within x y) = refl
+same_bytes (single x) = refl
+same_bytes (next x y) = refl
+same_bytes (multiple m) = refl
+same_bytes (not1 c) = ap (λ s. 4 ∷ s) (same_bytes c)
+same_bytes (and1 c d) = let e = same_bytes c in let f = same_bytes d in cc
+same_bytes (some x c) = ap (λ s. 6 ∷ x ∷ s) (same_bytes c)
+
+-- a row claim turned back; what is no ring claim, some one
+back : RowClaim → RingClaim
+back (rows.atom (Related (Within x y))) = within x y
+back (rows.atom (Related (Single x))) = single x
+back (rows.atom (Related (Next x y))) = next x y
+back (rows.atom (Related (Before x y))) = single 0
+back (rows.atom (Counted m)) = multiple m
+back (rows.last x) = single 0
+back (rows.not1 c) = not1 (back c)
+back (rows.and1 c d) = and1 (back c) (back d)
+back (rows.some x c) = some x (back c)
+
+back_again : (c : RingClaim) → back (same_signs c) ≡ c
+unfolding back same_signs
+back_again (within x y) = refl
+back_again (single x) = refl
+back_again (next x y) = refl
+back_again (multiple m) = refl
+back_again (not1 c) = ap not1 (back_again c)
+back_again (and1 c d) = ap₂ and1 (back_again c) (back_again d)
+back_again (some x c) = ap (some x) (back_again c)
+
+-- what stands first in bytes is at most one ring claim, and leaves at most one rest
+pub one_front : (c d : RingClaim) (x y : List ℕ) → ring_bytes c ++ x ≡ ring_bytes d ++ y → (c ≡ d) × (x ≡ y)
+one_front c d x y h =
+    let e = same_bytes c in
+    let f = same_bytes d in
+    let g : row_bytes (same_signs c) ++ x ≡ row_bytes (same_signs d) ++ y = cc in
+    let (i, j) = row_laws.one_front (same_signs c) (same_signs d) x y g in
+    (sym (back_again c) ∙ (ap back i ∙ back_again d), j)
+
+-- what a ring claim c with t behind it is, if its bytes are sign b, that of a claim with parts, and then r
+abbrev pub Parts : ℕ → List ℕ → RingClaim → List ℕ → Type 0
+Parts (suc (suc (suc (suc zero)))) r c t = (d : RingClaim) × (c ≡ not1 d) × (ring_bytes d ++ t ≡ r)
+Parts (suc (suc (suc (suc (suc zero))))) r c t = (d : RingClaim) × (e : RingClaim) × (c ≡ and1 d e) × (ring_bytes d ++ (ring_bytes e ++ t) ≡ r)
+Parts (suc (suc (suc (suc (suc (suc zero)))))) r c t = (x : ℕ) × (d : RingClaim) × (c ≡ some x d) × (x ∷ (ring_bytes d ++ t) ≡ r)
+Parts b r c t = Unit {0}
+
+pub parts : (c : RingClaim) (t : List ℕ) (b : ℕ) (r : List ℕ) → ring_bytes c ++ t ≡ b ∷ r → Parts b r c t
+parts (within x y) t b r h = let e : 0 ≡ b = cc in subst (λ b. Parts b r (within x y) t) e tt
+parts (single x) t b r h = let e : 1 ≡ b = cc in subst (λ b. Parts b r (single x) t) e tt
+parts (next x y) t b r h = let e : 2 ≡ b = cc in subst (λ b. Parts b r (next x y) t) e tt
+parts (multiple m) t b r h = let e : 7 ≡ b = cc in subst (λ b. Parts b r (multiple m) t) e tt
+parts (not1 c) t b r h = let e : 4 ≡ b = cc in subst (λ b. Parts b r (not1 c) t) e (c, refl, cc)
+parts (and1 c d) t b r h = let e : 5 ≡ b = cc in subst (λ b. Parts b r (and1 c d) t) e (c, d, refl, cc (append_assoc (ring_bytes c) (ring_bytes d) t))
+parts (some x c) t b r h = let e : 6 ≡ b = cc in subst (λ b. Parts b r (some x c) t) e (x, c, refl, cc)
+
+pub one_ring_claim : OneRingClaim
+one_ring_claim s k l c d p q =
+    let a = append-nil (ring_bytes c) in
+    let b = append-nil (ring_bytes d) in
+    let i = p.bytes in
+    let j = q.bytes in
+    (cc, (one_front c d [] [] (cc)).0)
