@@ -1,53 +1,57 @@
 -- Bytes say at most one ring claim: they are those of the row claim with the same signs, and that tells the ring claim.
 use Rattle.std.proofs.Common.{◌≡◌, ℕ, zero, suc, List, [], ◌∷◌, ◌++◌, sym, refl, ap, ap₂, ◌∙◌, subst, append_assoc, append-nil}
+use Rattle.kinds.specs.declared.atom.Atom.{Atom}
 use Rattle.kinds.specs.declared.atom.Atom.TheVariants.{Related, Counted}
 use Rattle.kinds.specs.declared.relation.Relation.TheVariants.{Within, Single, Next, Before}
 use Rattle.row_claims.specs.Meaning.{RowClaim}
 use Rattle.row_claims.specs.Meaning as rows
 use Rattle.row_claims.specs.Bytes.{row_bytes}
 use Rattle.row_claims.proofs.OneRowClaim as row_laws
-use Rattle.ring_claims.specs.Meaning.{RingClaim, within, single, next, multiple, not1, and1, some}
+use Rattle.ring_claims.specs.Meaning.{RingClaim, atom, not1, and1, some, atom_of}
 use Rattle.ring_claims.specs.Bytes.{ring_bytes}
+use Rattle.ring_claims.specs.declared.atom.RingAtom.{RingAtom}
+use Rattle.ring_claims.specs.declared.atom.RingAtom.TheVariants as ring
 use Rattle.ring_claims.specs.Laws.{OneRingClaim}
 
 -- the same signs, read as a row claim
 same_signs : RingClaim → RowClaim
-same_signs (within x y) = rows.atom (Related (Within x y))
-same_signs (single x) = rows.atom (Related (Single x))
-same_signs (next x y) = rows.atom (Related (Next x y))
-same_signs (multiple m) = rows.atom (Counted m)
+same_signs (atom a) = rows.atom (atom_of a)
 same_signs (not1 c) = rows.not1 (same_signs c)
 same_signs (and1 c d) = rows.and1 (same_signs c) (same_signs d)
 same_signs (some x c) = rows.some x (same_signs c)
 
 same_bytes : (c : RingClaim) → row_bytes (same_signs c) ≡ ring_bytes c
 unfolding same_signs
-same_bytes (within x y) = refl
-same_bytes (single x) = refl
-same_bytes (next x y) = refl
-same_bytes (multiple m) = refl
+same_bytes (atom a) = refl
 same_bytes (not1 c) = ap (λ s. 4 ∷ s) (same_bytes c)
 same_bytes (and1 c d) = let e = same_bytes c in let f = same_bytes d in cc
 same_bytes (some x c) = ap (λ s. 6 ∷ x ∷ s) (same_bytes c)
 
 -- a row claim turned back; what is no ring claim, some one
+atom_back : Atom → RingAtom
+atom_back (Related (Within x y)) = ring.Within x y
+atom_back (Related (Single x)) = ring.Single x
+atom_back (Related (Next x y)) = ring.Next x y
+atom_back (Related (Before x y)) = ring.Single 0
+atom_back (Counted m) = ring.Multiple m
+
+atom_again : (a : RingAtom) → atom_back (atom_of a) ≡ a
+unfolding atom_back
+atom_again (ring.Within x y) = refl
+atom_again (ring.Single x) = refl
+atom_again (ring.Next x y) = refl
+atom_again (ring.Multiple m) = refl
+
 back : RowClaim → RingClaim
-back (rows.atom (Related (Within x y))) = within x y
-back (rows.atom (Related (Single x))) = single x
-back (rows.atom (Related (Next x y))) = next x y
-back (rows.atom (Related (Before x y))) = single 0
-back (rows.atom (Counted m)) = multiple m
-back (rows.last x) = single 0
+back (rows.atom a) = atom (atom_back a)
+back (rows.last x) = atom (ring.Single 0)
 back (rows.not1 c) = not1 (back c)
 back (rows.and1 c d) = and1 (back c) (back d)
 back (rows.some x c) = some x (back c)
 
 back_again : (c : RingClaim) → back (same_signs c) ≡ c
 unfolding back same_signs
-back_again (within x y) = refl
-back_again (single x) = refl
-back_again (next x y) = refl
-back_again (multiple m) = refl
+back_again (atom a) = ap atom (atom_again a)
 back_again (not1 c) = ap not1 (back_again c)
 back_again (and1 c d) = ap₂ and1 (back_again c) (back_again d)
 back_again (some x c) = ap (some x) (back_again c)
@@ -69,10 +73,10 @@ Parts (suc (suc (suc (suc (suc (suc zero)))))) r c t = (x : ℕ) × (d : RingCla
 Parts b r c t = Unit {0}
 
 pub parts : (c : RingClaim) (t : List ℕ) (b : ℕ) (r : List ℕ) → ring_bytes c ++ t ≡ b ∷ r → Parts b r c t
-parts (within x y) t b r h = let e : 0 ≡ b = cc in subst (λ b. Parts b r (within x y) t) e tt
-parts (single x) t b r h = let e : 1 ≡ b = cc in subst (λ b. Parts b r (single x) t) e tt
-parts (next x y) t b r h = let e : 2 ≡ b = cc in subst (λ b. Parts b r (next x y) t) e tt
-parts (multiple m) t b r h = let e : 7 ≡ b = cc in subst (λ b. Parts b r (multiple m) t) e tt
+parts (atom (ring.Within x y)) t b r h = let e : 0 ≡ b = cc in subst (λ b. Parts b r (atom (ring.Within x y)) t) e tt
+parts (atom (ring.Single x)) t b r h = let e : 1 ≡ b = cc in subst (λ b. Parts b r (atom (ring.Single x)) t) e tt
+parts (atom (ring.Next x y)) t b r h = let e : 2 ≡ b = cc in subst (λ b. Parts b r (atom (ring.Next x y)) t) e tt
+parts (atom (ring.Multiple m)) t b r h = let e : 7 ≡ b = cc in subst (λ b. Parts b r (atom (ring.Multiple m)) t) e tt
 parts (not1 c) t b r h = let e : 4 ≡ b = cc in subst (λ b. Parts b r (not1 c) t) e (c, refl, cc)
 parts (and1 c d) t b r h = let e : 5 ≡ b = cc in subst (λ b. Parts b r (and1 c d) t) e (c, d, refl, cc (append_assoc (ring_bytes c) (ring_bytes d) t))
 parts (some x c) t b r h = let e : 6 ≡ b = cc in subst (λ b. Parts b r (some x c) t) e (x, c, refl, cc)

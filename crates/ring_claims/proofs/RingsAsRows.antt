@@ -1,5 +1,5 @@
 -- Ring claims as row claims.
-use Rattle.std.proofs.Common.{◌≡◌, ℕ, zero, suc, ◌<◌, ◌≤◌, max, Bool, true, false, cond, ◌&&◌, T, eqb, ltb, leb, ◌⊎◌, ◌↔◌, List, length, sym, refl, ◌∙◌, subst, inl, inr, arith, ltb→lt, lt→ltb, le→leb}
+use Rattle.std.proofs.Common.{◌≡◌, ℕ, zero, suc, ◌<◌, ◌≤◌, max, Bool, true, false, cond, ◌&&◌, T, eqb, ltb, leb, ◌⊎◌, ◌↔◌, List, length, sym, refl, ◌∙◌, subst, inl, inr, arith, ltb→lt, lt→ltb, le→leb, leb→le}
 use native.Mathlib.Decide.{ℕ_discrete}
 use Rattle.std.proofs.lemmas.Bool.Decides.{eqb_tells}
 use Rattle.words.specs.Words.{Sets, Word, sets}
@@ -17,8 +17,10 @@ use Rattle.row_claims.specs.Meaning as rows
 use Rattle.row_claims.specs.Reading.{row_ok, further}
 use Rattle.row_claims.proofs.FurtherLaws.{further_says}
 use Rattle.row_claims.proofs.Told.{row_decided}
-use Rattle.ring_claims.specs.Meaning.{RingClaim, within, single, next, multiple, not1, and1, some, NextOf, HoldsRing, OfRing}
-use Rattle.ring_claims.specs.Reading.{ring_ok, row_single, row_next, alone, at_seam, around, ring_next, in_ring}
+use Rattle.ring_claims.specs.Meaning.{RingClaim, atom, not1, and1, some, NextOf, MeansRing, HoldsRing, OfRing, atom_of}
+use Rattle.ring_claims.specs.Reading.{ring_ok, row_single, row_next, alone, at_seam, around, ring_next, atom_in, in_ring}
+use Rattle.ring_claims.specs.declared.atom.RingAtom.{RingAtom}
+use Rattle.ring_claims.specs.declared.atom.RingAtom.TheVariants.{Within, Single, Next, Multiple}
 use Rattle.ring_claims.specs.Laws.{RingSays, RingSets, RingTells, RingDecided, NextToItself}
 
 -- all sets end with the ring
@@ -41,7 +43,7 @@ one_inside n i h j e = let q = one_has i j e in omega arith
 
 module _ (n : ℕ) (v : Sets) (ending : Ending n v) where
   -- a set next to itself has the one place of a ring of one
-  next_alone : (x : ℕ) → HoldsRing (next x x) n v ↔ ((n ≡ 1) × Only v x 0)
+  next_alone : (x : ℕ) → MeansRing (Next x x) n v ↔ ((n ≡ 1) × Only v x 0)
   next_alone x = (λ h. (let (i, j, o, p, b) = h in of_one i j o (o.1 j p.0) b), λ h. (0, 0, h.1, h.1, inr (sym h.0, refl)))
     where
       of_one : (i j : ℕ) → Only v x i → j ≡ i → NextOf n i j → (n ≡ 1) × Only v x 0
@@ -96,14 +98,14 @@ module _ (n : ℕ) (v : Sets) (ending : Ending n v) where
         let s = o.1 (suc k) ((only_put v x u y (suc k) flipped).1 q).0 in
         omega arith
 
-    around_to : HoldsRing (next x y) n v → HoldsRow (around x y) n v
+    around_to : MeansRing (Next x y) n v → HoldsRow (around x y) n v
     around_to h = let (i, j, o, p, b) = h in ((single_holds x v).1 (i, o), ((single_holds y v).1 (j, p), λ g. go i j o p b g.0 g.1))
       where
         go : (i j : ℕ) → Only v x i → Only v y j → NextOf n i j → (HoldsRow (row_next x y) n v → ⊥) → (HoldsRow (at_seam x y) n v → ⊥) → ⊥
         go i j o p (inl e) f g = f ((next_holds x y v).1 (i, o, subst (λ q. Only v y q) (sym e) p))
         go i j o p (inr e) f g = g (none_behind i o e.0, none_before (subst (λ q. Only v y q) e.1 p))
 
-    around_from : HoldsRow (around x y) n v → HoldsRing (next x y) n v
+    around_from : HoldsRow (around x y) n v → MeansRing (Next x y) n v
     around_from h =
         let (i, o) = (single_holds x v).0 h.0 in
         let (j, p) = (single_holds y v).0 h.1.0 in
@@ -129,20 +131,23 @@ module _ (n : ℕ) (v : Sets) (ending : Ending n v) where
           ]
         ]
 
-  next_says : (x y : ℕ) → HoldsRing (next x y) n v ↔ HoldsRow (ring_next x y) n v
+  next_says : (x y : ℕ) → MeansRing (Next x y) n v ↔ HoldsRow (ring_next x y) n v
   next_says x y = elim (eqb_tells x y) [
-    | inl p ↦ subst (λ b. HoldsRing (next x y) n v ↔ HoldsRow (cond b (alone x) (around x y)) n v) (sym p.0) (subst (λ y. HoldsRing (next x y) n v ↔ HoldsRow (alone x) n v) p.1 itself)
-    | inr p ↦ subst (λ b. HoldsRing (next x y) n v ↔ HoldsRow (cond b (alone x) (around x y)) n v) (sym p.0) (around_to x y p.1, around_from x y p.1)
+    | inl p ↦ subst (λ b. MeansRing (Next x y) n v ↔ HoldsRow (cond b (alone x) (around x y)) n v) (sym p.0) (subst (λ y. MeansRing (Next x y) n v ↔ HoldsRow (alone x) n v) p.1 itself)
+    | inr p ↦ subst (λ b. MeansRing (Next x y) n v ↔ HoldsRow (cond b (alone x) (around x y)) n v) (sym p.0) (around_to x y p.1, around_from x y p.1)
   ]
     where
-      itself : HoldsRing (next x x) n v ↔ HoldsRow (alone x) n v
+      itself : MeansRing (Next x x) n v ↔ HoldsRow (alone x) n v
       itself = (λ h. alone_to x ((next_alone x).0 h), λ h. (next_alone x).1 (alone_from x h))
 
+atom_says : (a : RingAtom) (n : ℕ) (v : Sets) → Ending n v → MeansRing a n v ↔ HoldsRow (atom_in a) n v
+atom_says (Within x y) n v b = (λ h. h, λ h. h)
+atom_says (Single x) n v b = (λ h. h, λ h. h)
+atom_says (Next x y) n v b = next_says n v b x y
+atom_says (Multiple m) n v b = (λ h. h, λ h. h)
+
 says : (c : RingClaim) (n : ℕ) (v : Sets) → Ending n v → HoldsRing c n v ↔ HoldsRow (in_ring c) n v
-says (within x y) n v b = (λ h. h, λ h. h)
-says (single x) n v b = (λ h. h, λ h. h)
-says (next x y) n v b = next_says n v b x y
-says (multiple m) n v b = (λ h. h, λ h. h)
+says (atom a) n v b = atom_says a n v b
 says (not1 c) n v b = let e = says c n v b in (λ h g. h (e.1 g), λ h g. h (e.0 g))
 says (and1 c d) n v b = let e = says c n v b in let f = says d n v b in (λ h. (e.0 h.0, f.0 h.1), λ h. (e.1 h.0, f.1 h.1))
 says (some x c) n v b = (
@@ -185,10 +190,10 @@ module _ (k : ℕ) where
           and_ok (row_single x) (rows.and1 (row_single y) rest) one_x (and_ok (row_single y) rest (pair_ok y y b b) inner)
 
   in_ok : (c : RingClaim) → T (ring_ok k c) → T (row_ok k (in_ring c))
-  in_ok (within x y) t = let (a, b) = both_passed (ltb x k) (ltb y k) t in pair_ok x y a b
-  in_ok (single x) t = pair_ok x x t t
-  in_ok (next x y) t = let (a, b) = both_passed (ltb x k) (ltb y k) t in next_ok x y a b
-  in_ok (multiple m) t = le→leb (suc m.set) k (let l = ltb→lt m.set k t in omega arith)
+  in_ok (atom (Within x y)) t = t
+  in_ok (atom (Single x)) t = t
+  in_ok (atom (Next x y)) t = let l = leb→le (max (suc x) (suc y)) k t in next_ok x y (lt→ltb x k (omega arith)) (lt→ltb y k (omega arith))
+  in_ok (atom (Multiple m)) t = t
   in_ok (not1 c) t = in_ok c t
   in_ok (and1 c d) t = let (a, b) = both_passed (ring_ok k c) (ring_ok k d) t in and_ok (in_ring c) (in_ring d) (in_ok c a) (in_ok d b)
   in_ok (some x c) t = let (a, b) = both_passed (ltb x k) (ring_ok k c) t in some_ok x (in_ring c) a (in_ok c b)

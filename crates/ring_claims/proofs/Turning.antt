@@ -9,7 +9,8 @@ use Rattle.claims.specs.Claims.{has, put}
 use Rattle.translation.proofs.Opened.{within_holds, single_holds}
 use Rattle.rows.proofs.Bools.{bool_apart}
 use Rattle.row_claims.specs.Meaning.{Inside}
-use Rattle.ring_claims.specs.Meaning.{RingClaim, within, single, next, multiple, not1, and1, some, NextOf, HoldsRing, OfRing}
+use Rattle.ring_claims.specs.Meaning.{RingClaim, atom, not1, and1, some, NextOf, HoldsRing, OfRing}
+use Rattle.ring_claims.specs.declared.atom.RingAtom.TheVariants.{Within, Single, Next, Multiple}
 use Rattle.ring_claims.specs.Laws.{SameTurned}
 use Rattle.ring_claims.proofs.RingsAsRows.{Ending, put_ending, word_ending}
 use Rattle.ring_claims.proofs.RingPlaces.{same_places, places_turned}
@@ -54,19 +55,19 @@ module _ (n : ℕ) (σ τ : ℕ → ℕ) (σ_below : (i : ℕ) → i < n → σ 
       at false = m y i h
 
   pub moved_says : (c : RingClaim) (v w : Sets) → Ending n v → Ending n w → Moved v w → HoldsRing c n v ↔ HoldsRing c n w
-  moved_says (within x y) v w bv bw m = (
+  moved_says (atom (Within x y)) v w bv bw m = (
     λ h. (within_holds x y w).1 (λ i e. (let l = bw x i e in m y i l ∙ (within_holds x y v).0 h (σ i) (sym (m x i l) ∙ e))),
     λ h. (within_holds x y v).1 (λ i e. (let l = bv x i e in sym (back v w m y i l) ∙ (within_holds x y w).0 h (τ i) (back v w m x i l ∙ e))),
   )
-  moved_says (single x) v w bv bw m = (
+  moved_says (atom (Single x)) v w bv bw m = (
     λ h. (let (i, o) = (single_holds x v).0 h in (single_holds x w).1 (τ i, only_to v w bv bw m x i o)),
     λ h. (let (i, o) = (single_holds x w).0 h in (single_holds x v).1 (σ i, only_from v w bv bw m x i o)),
   )
-  moved_says (next x y) v w bv bw m = (
+  moved_says (atom (Next x y)) v w bv bw m = (
     λ h. (τ h.0, τ h.1, only_to v w bv bw m x h.0 h.2, only_to v w bv bw m y h.1 h.3, from h.0 h.1 (bv x h.0 h.2.0) (bv y h.1 h.3.0) h.4),
     λ h. (σ h.0, σ h.1, only_from v w bv bw m x h.0 h.2, only_from v w bv bw m y h.1 h.3, to h.0 h.1 (bw x h.0 h.2.0) (bw y h.1 h.3.0) h.4),
   )
-  moved_says (multiple c) v w bv bw m =
+  moved_says (atom (Multiple c)) v w bv bw m =
       let e = count (v c.set) (w c.set) (m c.set) in (
         λ h. (let (a, t, l, p) = (counted c v).0 h in (counted c w).1 (n, t, bw c.set, sym e ∙ (same_places (v c.set) n a (bv c.set) l ∙ p))),
         λ h. (let (a, t, l, p) = (counted c w).0 h in (counted c v).1 (n, t, bv c.set, e ∙ (same_places (w c.set) n a (bw c.set) l ∙ p))),

@@ -1,13 +1,11 @@
 -- Ring claims as bytes: those of row claims, without the signs 3 of before and 8 of last.
-use Rattle.std.specs.Prelude.{◌≡◌, ℕ, ◌&&◌, T, List, [], ◌∷◌, ◌++◌, length, nat_le}
-use Rattle.ring_claims.specs.Meaning.{RingClaim, within, single, next, multiple, not1, and1, some}
+use Rattle.std.specs.Prelude.{◌≡◌, ℕ, ◌&&◌, T, List, ◌∷◌, ◌++◌, length, nat_le}
+use Rattle.kinds.specs.Atoms.{row_of}
+use Rattle.ring_claims.specs.Meaning.{RingClaim, atom, not1, and1, some, atom_of}
 use Rattle.ring_claims.specs.Reading.{ring_ok}
 
 abbrev pub ring_bytes : RingClaim → List ℕ
-ring_bytes (within x y) = 0 ∷ x ∷ y ∷ []
-ring_bytes (single x) = 1 ∷ x ∷ []
-ring_bytes (next x y) = 2 ∷ x ∷ y ∷ []
-ring_bytes (multiple m) = 7 ∷ m.remainder.modulus ∷ m.remainder.rest ∷ m.set ∷ []
+ring_bytes (atom a) = row_of (atom_of a)
 ring_bytes (not1 c) = 4 ∷ ring_bytes c
 ring_bytes (and1 c d) = 5 ∷ (ring_bytes c ++ ring_bytes d)
 ring_bytes (some x c) = 6 ∷ x ∷ ring_bytes c

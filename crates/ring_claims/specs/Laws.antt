@@ -5,9 +5,10 @@ use Rattle.kinds.specs.Relations.{Only}
 use Rattle.rows.specs.RowClaims.{Tells}
 use Rattle.row_claims.specs.Meaning.{OfRow}
 use Rattle.row_claims.specs.Reading.{row_ok, row_with, row_without}
-use Rattle.ring_claims.specs.Meaning.{RingClaim, next, OfRing, Turned}
+use Rattle.ring_claims.specs.Meaning.{RingClaim, atom, OfRing, Turned}
 use Rattle.ring_claims.specs.Reading.{ring_ok, in_ring}
 use Rattle.ring_claims.specs.Bytes.{SaysRing}
+use Rattle.ring_claims.specs.declared.atom.RingAtom.TheVariants.{Next}
 
 -- a ring claim holds of a word exactly if the row claim does; the empty word, the empty ring, is one of them
 abbrev pub RingSays : Type 0
@@ -35,7 +36,7 @@ RingDecided = (k : ℕ) (c : RingClaim) (w : Word) → 1 ≤ k → T (ring_ok k 
 
 -- a set is next to itself exactly if it has the one place of a ring of one
 abbrev pub NextToItself : Type 0
-NextToItself = (x : ℕ) (w : Word) → OfRing (next x x) w ↔ ((length w ≡ 1) × Only (sets w) x 0)
+NextToItself = (x : ℕ) (w : Word) → OfRing (atom (Next x x)) w ↔ ((length w ≡ 1) × Only (sets w) x 0)
 
 -- bytes say at most one ring claim
 abbrev pub OneRingClaim : Type 0

@@ -2,31 +2,43 @@
 use Rattle.std.specs.Prelude.{◌≡◌, ℕ, suc, ◌⊎◌, List, Bool, length, ◌++◌}
 use Rattle.words.specs.Words.{Sets, Word, sets}
 use Rattle.kinds.specs.Relations.{Only}
-use Rattle.kinds.specs.declared.multiple.Multiple.{Multiple}
+use Rattle.kinds.specs.Meaning.{Means}
+use Rattle.kinds.specs.declared.atom.Atom.{Atom}
+use Rattle.kinds.specs.declared.atom.Atom.TheVariants.{Related, Counted}
+use Rattle.kinds.specs.declared.relation.Relation.TheVariants as relation
 use Rattle.claims.specs.Claims as claims
 use Rattle.row_claims.specs.Meaning.{Inside}
+use Rattle.ring_claims.specs.declared.atom.RingAtom.{RingAtom}
+use Rattle.ring_claims.specs.declared.atom.RingAtom.TheVariants.{Within, Single, Next, Multiple}
 
 -- Sets are given by their numbers. Before and last are no ring claims: of two places of a ring neither is further on, and none is the last.
 pub data RingClaim : Type 0 where
-  within : ℕ → ℕ → RingClaim
-  single : ℕ → RingClaim
-  next : ℕ → ℕ → RingClaim
-  multiple : Multiple → RingClaim
+  atom : RingAtom → RingClaim
   not1 : RingClaim → RingClaim
   and1 : RingClaim → RingClaim → RingClaim
   some : ℕ → RingClaim → RingClaim
+
+-- the claim about sets with the same sign
+abbrev pub atom_of : RingAtom → Atom
+atom_of (Within x y) = Related (relation.Within x y)
+atom_of (Single x) = Related (relation.Single x)
+atom_of (Next x y) = Related (relation.Next x y)
+atom_of (Multiple m) = Counted m
 
 -- of n places, j is the next of i: the one behind it, and of the last the first; so the one place of a ring of one is next to itself
 abbrev pub NextOf : ℕ → ℕ → ℕ → Type 0
 NextOf n i j = (suc i ≡ j) ⊎ ((suc i ≡ n) × (j ≡ 0))
 
--- Of a ring of n places. within, single, multiple: as of all places. next x y: x and y have one place each, and y's is the next of x's.
--- some x c: there is a set of places of the ring that, taken for x, makes c hold.
+-- next: x and y have one place each, and y's is the next of x's; the others hold of a ring as of all places
+abbrev pub MeansRing : RingAtom → ℕ → Sets → Type 0
+MeansRing (Within x y) n v = Means (atom_of (Within x y)) v
+MeansRing (Single x) n v = Means (atom_of (Single x)) v
+MeansRing (Next x y) n v = (i : ℕ) × (j : ℕ) × Only v x i × Only v y j × NextOf n i j
+MeansRing (Multiple m) n v = Means (atom_of (Multiple m)) v
+
+-- Of a ring of n places. some x c: there is a set of places of the ring that, taken for x, makes c hold.
 abbrev pub HoldsRing : RingClaim → ℕ → Sets → Type 0
-HoldsRing (within x y) n v = claims.Holds (claims.within x y) v
-HoldsRing (single x) n v = claims.Holds (claims.single x) v
-HoldsRing (next x y) n v = (i : ℕ) × (j : ℕ) × Only v x i × Only v y j × NextOf n i j
-HoldsRing (multiple m) n v = claims.Holds (claims.multiple m) v
+HoldsRing (atom a) n v = MeansRing a n v
 HoldsRing (not1 c) n v = HoldsRing c n v → ⊥
 HoldsRing (and1 c d) n v = HoldsRing c n v × HoldsRing d n v
 HoldsRing (some x c) n v = (u : List Bool) × Inside n u × HoldsRing c n (claims.put v x u)

@@ -3,4 +3,5 @@
 // proved of all of them, which stands on the contracts of the functions in `laws`.
 #![tactic(auto)]
 
+pub mod atom;
 pub mod laws;
