@@ -3,3 +3,8 @@ pub mod RingsAsRows
 pub mod RingPlaces
 pub mod Turning
 pub mod OneRingClaim
+-- reading bytes
+pub mod SignLaws
+pub mod FrontLaws
+-- writing them
+pub mod EncodedLaws

@@ -1,14 +1,17 @@
 -- Bytes say at most one ring claim: they are those of the row claim with the same signs, and that tells the ring claim.
-use Rattle.std.proofs.Common.{◌≡◌, ℕ, zero, suc, List, [], ◌∷◌, ◌++◌, sym, refl, ap, ap₂, ◌∙◌, subst, append_assoc, append-nil}
+use Rattle.std.proofs.Common.{◌≡◌, ℕ, zero, suc, ◌&&◌, T, ltb, leb, List, [], length, ◌∷◌, ◌++◌, sym, refl, ap, ap₂, ◌∙◌, subst, append_assoc, append-nil}
 use Rattle.kinds.specs.declared.atom.Atom.{Atom}
 use Rattle.kinds.specs.declared.atom.Atom.TheVariants.{Related, Counted}
 use Rattle.kinds.specs.declared.relation.Relation.TheVariants.{Within, Single, Next, Before}
+use Rattle.claims.proofs.FrontLaws.{both_passed, pass_both}
 use Rattle.row_claims.specs.Meaning.{RowClaim}
 use Rattle.row_claims.specs.Meaning as rows
-use Rattle.row_claims.specs.Bytes.{row_bytes}
+use Rattle.row_claims.specs.Reading.{row_ok}
+use Rattle.row_claims.specs.Bytes.{row_bytes, IsRowClaim}
 use Rattle.row_claims.proofs.OneRowClaim as row_laws
 use Rattle.ring_claims.specs.Meaning.{RingClaim, atom, not1, and1, some, atom_of}
-use Rattle.ring_claims.specs.Bytes.{ring_bytes}
+use Rattle.ring_claims.specs.Reading.{ring_ok}
+use Rattle.ring_claims.specs.Bytes.{ring_bytes, IsRingClaim}
 use Rattle.ring_claims.specs.declared.atom.RingAtom.{RingAtom}
 use Rattle.ring_claims.specs.declared.atom.RingAtom.TheVariants as ring
 use Rattle.ring_claims.specs.Laws.{OneRingClaim}
@@ -26,6 +29,29 @@ same_bytes (atom a) = refl
 same_bytes (not1 c) = ap (λ s. 4 ∷ s) (same_bytes c)
 same_bytes (and1 c d) = let e = same_bytes c in let f = same_bytes d in cc
 same_bytes (some x c) = ap (λ s. 6 ∷ x ∷ s) (same_bytes c)
+
+-- bytes that say a ring claim say that row claim
+same_ok : (k : ℕ) (c : RingClaim) → T (ring_ok k c) → T (row_ok k (same_signs c))
+unfolding same_signs
+same_ok k (atom a) t = t
+same_ok k (not1 c) t = same_ok k c t
+same_ok k (and1 c d) t = let (a, b) = both_passed (ring_ok k c) (ring_ok k d) t in pass_both (row_ok k (same_signs c)) (row_ok k (same_signs d)) (same_ok k c a) (same_ok k d b)
+same_ok k (some x c) t = let (a, b) = both_passed (ltb x k) (ring_ok k c) t in pass_both (ltb x k) (row_ok k (same_signs c)) a (same_ok k c b)
+
+pub is_row_claim : (s : List ℕ) → IsRingClaim s → IsRowClaim s
+is_row_claim s h =
+    let (k, c, f) = h in
+    let (a, g) = both_passed (leb 1 k) (leb k 12 && (leb (length s) 1024 && ring_ok k c)) f.fine in
+    let (b, i) = both_passed (leb k 12) (leb (length s) 1024 && ring_ok k c) g in
+    let (d, o) = both_passed (leb (length s) 1024) (ring_ok k c) i in (
+      k,
+      same_signs c,
+      record {
+        bytes = ap (λ z. k ∷ z) (same_bytes c) ∙ f.bytes;
+        fine = pass_both (leb 1 k) (leb k 12 && (leb (length s) 1024 && row_ok k (same_signs c))) a
+            (pass_both (leb k 12) (leb (length s) 1024 && row_ok k (same_signs c)) b (pass_both (leb (length s) 1024) (row_ok k (same_signs c)) d (same_ok k c o)));
+      },
+    )
 
 -- a row claim turned back; what is no ring claim, some one
 atom_back : Atom → RingAtom

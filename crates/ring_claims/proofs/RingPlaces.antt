@@ -1,6 +1,5 @@
 -- How many places a set of a ring has: the same number up to each end that it has, and in the ring turned by one place.
-use Rattle.std.proofs.Common.{◌≡◌, ℕ, zero, suc, ◌+◌, ◌<◌, Bool, true, false, cond, ap, ap₂, sym, refl, ◌∙◌, arith}
-use Rattle.rows.proofs.Bools.{bool_apart}
+use Rattle.std.proofs.Common.{◌≡◌, ℕ, zero, suc, ◌+◌, ◌<◌, Bool, true, false, cond, ap, sym, refl, arith}
 use Rattle.kinds.specs.Counts.{Ends, places}
 
 no_place : (b : Bool) → (b ≡ true → ⊥) → ◌≡◌ {A = ℕ} (cond b 1 0) 0

@@ -1,5 +1,5 @@
 -- Ring claims as row claims.
-use Rattle.std.proofs.Common.{◌≡◌, ℕ, zero, suc, ◌<◌, ◌≤◌, max, Bool, true, false, cond, ◌&&◌, T, eqb, ltb, leb, ◌⊎◌, ◌↔◌, List, length, sym, refl, ◌∙◌, subst, inl, inr, arith, ltb→lt, lt→ltb, le→leb, leb→le}
+use Rattle.std.proofs.Common.{◌≡◌, ℕ, zero, suc, ◌<◌, max, Bool, true, false, cond, T, eqb, ltb, leb, ◌↔◌, List, length, sym, refl, ◌∙◌, subst, inl, inr, arith, ltb→lt, lt→ltb, le→leb, leb→le}
 use native.Mathlib.Decide.{ℕ_discrete}
 use Rattle.std.proofs.lemmas.Bool.Decides.{eqb_tells}
 use Rattle.words.specs.Words.{Sets, Word, sets}
@@ -8,7 +8,7 @@ use Rattle.claims.specs.Claims.{has, put, Holds}
 use Rattle.claims.specs.Claims as claims
 use Rattle.claims.specs.Places.{one}
 use Rattle.claims.proofs.FrontLaws.{both_passed, pass_both}
-use Rattle.claims.proofs.PlacesLaws.{has_one, one_has, only_one, only_put, put_same}
+use Rattle.claims.proofs.PlacesLaws.{one_has, only_one, only_put, put_same}
 use Rattle.translation.proofs.Opened.{single_holds, next_holds}
 use Rattle.rows.proofs.StepLaws.{sets_below}
 use Rattle.rows.proofs.Telling.{tells}
@@ -17,7 +17,7 @@ use Rattle.row_claims.specs.Meaning as rows
 use Rattle.row_claims.specs.Reading.{row_ok, further}
 use Rattle.row_claims.proofs.FurtherLaws.{further_says}
 use Rattle.row_claims.proofs.Told.{row_decided}
-use Rattle.ring_claims.specs.Meaning.{RingClaim, atom, not1, and1, some, NextOf, MeansRing, HoldsRing, OfRing, atom_of}
+use Rattle.ring_claims.specs.Meaning.{RingClaim, atom, not1, and1, some, NextOf, MeansRing, HoldsRing, OfRing}
 use Rattle.ring_claims.specs.Reading.{ring_ok, row_single, row_next, alone, at_seam, around, ring_next, atom_in, in_ring}
 use Rattle.ring_claims.specs.declared.atom.RingAtom.{RingAtom}
 use Rattle.ring_claims.specs.declared.atom.RingAtom.TheVariants.{Within, Single, Next, Multiple}

@@ -4,4 +4,13 @@
 #![tactic(auto)]
 
 pub mod atom;
+pub mod claim;
+pub mod encode;
 pub mod laws;
+pub mod prefix;
+pub mod reading;
+pub mod row;
+pub mod sign;
+#[cfg(test)]
+mod tests;
+pub mod tree;
