@@ -4,7 +4,7 @@ use super::compared::Difference;
 use super::random::Random;
 use super::ring_automata;
 use super::ring_holds::{holds, rings, turned};
-use super::ring_tally::RingTally;
+use super::ring_tally::{RingTally, says_next};
 use super::row_automata::Automaton;
 use super::row_compared::{MOST, PLACES, STEPS, widened};
 use super::row_form::{depth, renamed};
@@ -24,7 +24,8 @@ pub fn draw(random: &mut Random, tally: &RingTally, count: usize) -> (u8, RingPa
         let signs = 2 + random.below(16);
         let nested = [0, 1, 1, 2, 2, 3, 3, 4][random.below(8)];
         let claim = random.ring_claim(sets, signs, nested);
-        if depth(&RowPart::from(&claim)) == 0 && !random.one_in(4) {
+        let is_plain = depth(&RowPart::from(&claim)) == 0 || !says_next(&claim);
+        if is_plain && !random.one_in(4) {
             continue;
         }
         let Some(automaton) = ring_automata::of(&claim, sets) else { return (sets, claim) };

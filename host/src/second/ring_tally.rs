@@ -36,7 +36,7 @@ impl RingTally {
 }
 
 /// Whether it says `next` of two sets.
-fn says_next(claim: &RingPart) -> bool {
+pub(super) fn says_next(claim: &RingPart) -> bool {
     match claim {
         RingPart::Next(x, y) => x != y,
         RingPart::Not(c) | RingPart::Some(_, c) => says_next(c),
