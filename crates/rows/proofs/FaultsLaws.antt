@@ -25,13 +25,15 @@ use Rattle.rows.specs.Local.{Local, eval, neg, each, somewhere}
 use Rattle.rows.specs.RuleLocal.{fits_local, allowed_local, waits_local}
 use Rattle.rows.specs.RowClaims.{below, same_number, Gives, has_module}
 use Rattle.rows.specs.Limits.{row_env, AllowedRow, names_of, groups_ok, row_numbers}
-use Rattle.rows.specs.Faults.{asked_ok, literals_ok, patterns_ok, lines_ok, member, unchanged, all_below, after_number, allowed_part, fault_part, next_claim, has_changed, limits_ok, has_named, RuleClaims, RuleClaimsTell}
+use Rattle.rows.specs.Faults.{asked_ok, literals_ok, patterns_ok, lines_ok, member, unchanged, all_below, after_number, allowed_part, fault_part, limits_after, next_claim, has_changed, limits_ok, has_named, RuleClaims, RuleClaimsTell}
 use Rattle.rows.proofs.Bools.{bool_apart, found}
 use Rattle.rows.proofs.LocalLaws.{neg_eval, somewhere_says, each_says}
 use Rattle.rows.proofs.RuleLocalLaws.{as_view, fits_eval, allowed_eval, waits_eval}
 use Rattle.rows.proofs.Viewing.{Alike, fits_alike, any_alike, moves_alike, view_of, each_place, views}
 use Rattle.rows.proofs.NextLaws.{known, next_says}
 use Rattle.rows.proofs.LimitsLaws.{number_row, with_limits_says, limits_fail_says, stand_next}
+use Rattle.rows.proofs.LimitsAfterLaws.{all_after, some_after, named_after}
+use Rattle.rows.proofs.StepLaws.{as_long}
 use Rattle.rows.proofs.RowShape.{has_module_says}
 use Rattle.rows.proofs.Telling.{tells}
 
@@ -150,14 +152,23 @@ module _ (s : Layout) (b : ℕ) (one_bit : 1 ≤ b) (js : List ℕ) (pss : List 
     allowed_row : Holds (allowed_part s b same_number pss l) v ↔ AllowedRow s b pss l w
     allowed_row = with_limits_says b (below b) same_number v w f g (λ x t. ltb→lt x b t) refl l (named_row (names_of l) hl) (each s b (allowed_local b same_number pss)) (allowed_says s b (below b) same_number v w g pss hp)
 
-    left_row : Holds (next_claim s b js R (fault_part s b (after_number b js) pss l)) v ↔ (AllowedRow s b pss l (step s b R w) → ⊥)
-    left_row = next_says b js R bits_below s w hr v f g (fault_part s b (after_number b js) pss l) (AllowedRow s b pss l (step s b R w) → ⊥)
+    abbrev later : List Formula
+    later = limits_after b l
+
+    left_row : Holds (next_claim s b js R (fault_part s b (after_number b js) pss later)) v ↔ (AllowedRow s b pss later (step s b R w) → ⊥)
+    left_row = next_says b js R bits_below s w hr v f g (fault_part s b (after_number b js) pss later) (AllowedRow s b pss later (step s b R w) → ⊥)
         (λ z fz gz gy.
-        limits_fail_says b (known b js R) (after_number b js) z (step s b R w) fz gy (λ x t. ltb→lt x b (both_passed (ltb x b) (seen x) t).0) (number_row b js bits_below) l (named_known (names_of l) hl asked.1) (each s b (allowed_local b (after_number b js) pss)) (somewhere s b (neg (allowed_local b (after_number b js) pss)))
+        limits_fail_says b (known b js R) (after_number b js) z (step s b R w) fz gy (λ x t. ltb→lt x b (both_passed (ltb x b) (seen x) t).0) (number_row b js bits_below) later (named_known (names_of later) (named_after b (λ x. ltb x (suc b)) l hl) (named_after b (λ x. eqb x b || seen x) l asked.1)) (each s b (allowed_local b (after_number b js) pss)) (somewhere s b (neg (allowed_local b (after_number b js) pss)))
         (allowed_says s b (known b js R) (after_number b js) z (step s b R w) gy pss patterns_known) (not_allowed_says s b (known b js R) (after_number b js) z (step s b R w) gy pss patterns_known))
       where
         patterns_known : T (patterns_ok (known b js R) pss)
         patterns_known = patterns_both (below b) seen pss hp asked.0
+
+    allowed_left : Holds (and1 (allowed_part s b same_number pss l) (next_claim s b js R (fault_part s b (after_number b js) pss later))) v ↔ (AllowedRow s b pss l w × (AllowedRow s b pss l (step s b R w) → ⊥))
+    allowed_left = (
+      λ h. (allowed_row.0 h.0, λ p. left_row.0 h.1 (p.0, some_after b (row_env b (step s b R w) (step s b R w)) l p.1)),
+      λ h. (allowed_row.1 h.0, left_row.1 (λ p. h.1 (p.0, all_after b v f w (step s b R w) g.places (as_long s b R w) l h.0.1 p.1))),
+    )
 
     fails_row : (ks : List ℕ) (a : Formula) → T (has_named b ks a) → Holds (next_claim s b ks R (not1 (claim a (row_numbers b same_number)))) v ↔ (Meaning a (row_env b w (step s b R w)) → ⊥)
     fails_row ks a h =
@@ -170,8 +181,8 @@ module _ (s : Layout) (b : ℕ) (one_bit : 1 ≤ b) (js : List ℕ) (pss : List 
     allowed = tells b one_bit (and1 (has_module b) (allowed_part s b same_number pss l)) (λ w. (w ≡ [] → ⊥) × AllowedRow s b pss l w) (λ v w f hw g. iff_and (has_module_says b one_bit v w g) (allowed_row v w f g));
     stuck = tells b one_bit (and1 (has_module b) (and1 (allowed_part s b same_number pss l) (each s b (waits_local b same_number R)))) (λ w. (w ≡ [] → ⊥) × (AllowedRow s b pss l w × Stuck s R w))
         (λ v w f hw g. iff_and (has_module_says b one_bit v w g) (iff_and (allowed_row v w f g) (stuck_says s b (below b) same_number v w g R hr)));
-    left = tells b one_bit (and1 (allowed_part s b same_number pss l) (next_claim s b js R (fault_part s b (after_number b js) pss l))) (λ w. AllowedRow s b pss l w × (AllowedRow s b pss l (step s b R w) → ⊥))
-        (λ v w f hw g. iff_and (allowed_row v w f g) (left_row v w f g));
+    left = tells b one_bit (and1 (allowed_part s b same_number pss l) (next_claim s b js R (fault_part s b (after_number b js) pss (limits_after b l)))) (λ w. AllowedRow s b pss l w × (AllowedRow s b pss l (step s b R w) → ⊥))
+        (λ v w f hw g. allowed_left v w f g);
     place = λ ps hs. tells b one_bit (and1 (allowed_part s b same_number pss l) (somewhere s b (fits_local b same_number ps))) (λ w. AllowedRow s b pss l w × Somewhere s ps w)
         (λ v w f hw g. iff_and (allowed_row v w f g) (somewhere_fits s b (below b) same_number v w g ps hs));
     fails = λ ks a h. tells b one_bit (and1 (has_module b) (and1 (allowed_part s b same_number pss l) (next_claim s b ks R (not1 (claim a (row_numbers b same_number)))))) (λ w. (w ≡ [] → ⊥) × (AllowedRow s b pss l w × (Meaning a (row_env b w (step s b R w)) → ⊥)))

@@ -39,7 +39,7 @@ bound_number (suc n) y ρ x h = elim (eqb_tells x n) [
   | inr e ↦ (let q = e.1 in bound_number n y (numbered ρ (OfGroup n) (y n)) x (omega arith))
 ]
 
-row_number : (b : ℕ) (y : ℕ → ℕ) (x : ℕ) → x < suc (b + b) → row_numbers b y (OfGroup x) ≡ y x
+pub row_number : (b : ℕ) (y : ℕ → ℕ) (x : ℕ) → x < suc (b + b) → row_numbers b y (OfGroup x) ≡ y x
 row_number b y x h = bound_number (suc (b + b)) y (λ x. 0) x h
 
 pub number_row : (b : ℕ) (js : List ℕ) → T (all_below b js) → after_number b js b ≡ b
@@ -78,13 +78,13 @@ has_all (a ∷ w) zero = (λ e. omega arith, λ l. refl)
 has_all (a ∷ w) (suc i) = let r = has_all w i in (λ e. (let z = r.0 e in omega arith), λ l. r.1 (omega arith))
 
 -- names of such sets stand for what they mean
-stand_groups : (test : ℕ → Bool) (z : Sets) (ρ : Numbering) (e : Env) → ((x : ℕ) → T (test x) → (i : ℕ) → z (ρ (OfGroup x)) i ≡ has (e.groups x) i) → (l : List Name) → T (groups_ok test l) → Stand z ρ e l
+pub stand_groups : (test : ℕ → Bool) (z : Sets) (ρ : Numbering) (e : Env) → ((x : ℕ) → T (test x) → (i : ℕ) → z (ρ (OfGroup x)) i ≡ has (e.groups x) i) → (l : List Name) → T (groups_ok test l) → Stand z ρ e l
 stand_groups test z ρ e h [] t x a = absurd a
 stand_groups test z ρ e h (OfPlace y ∷ l) t x a = absurd t
 stand_groups test z ρ e h (OfGroup y ∷ l) t x (inl d) = subst (λ n. Stands z (ρ n) e n) (sym d) (h y (both_passed (test y) (groups_ok test l) t).0)
 stand_groups test z ρ e h (OfGroup y ∷ l) t x (inr c) = stand_groups test z ρ e h l (both_passed (test y) (groups_ok test l) t).1 x c
 
-row_place : (b : ℕ) (ok : ℕ → Bool) (y : ℕ → ℕ) (z : Sets) (w : Word) → Gives b ok y z w → (u : Word) (i : ℕ) → z b i ≡ has ((row_env b w u).groups b) i
+pub row_place : (b : ℕ) (ok : ℕ → Bool) (y : ℕ → ℕ) (z : Sets) (w : Word) → Gives b ok y z w → (u : Word) (i : ℕ) → z b i ≡ has ((row_env b w u).groups b) i
 row_place b ok y z w g u i =
     bools (z b i) (has (map (λ a. true) w) i) (λ e. (has_all w i).1 ((g.places i).0 e)) (λ e. (g.places i).1 ((has_all w i).0 e)) ∙ ap (λ t. has t i) (sym (group_row b w u))
 

@@ -8,7 +8,11 @@ use Rattle.claims.specs.Encoded.{sets_needed}
 use Rattle.workspace.specs.Floor.{NoRoom}
 use Rattle.translation.proofs.Opened.{within_itself}
 use Rattle.rows.specs.RowClaims.{same_number, marked, Tells, First as FirstRow}
-use Rattle.rows.specs.Faults.{allowed_part, fault_part, RuleClaims}
+use Rattle.rows.specs.Local.{each}
+use Rattle.rows.specs.RuleLocal.{allowed_local}
+use Rattle.rows.specs.Limits.{row_numbers}
+use Rattle.rows.specs.Faults.{allowed_part, fault_part, limits_after, RuleClaims}
+use Rattle.rows.proofs.LimitsAfterLaws.{claimed_after}
 use Rattle.rows.proofs.Telling.{tells as tells_row}
 use Rattle.rows.proofs.FaultsLaws.{rule_claims_tell}
 use Rattle.rules.specs.Changed.{changed, named_after}
@@ -37,7 +41,7 @@ module _ (r : Rule) where
   both_said (a ∷ l) v h f = f h
 
   none_left : RuleClaims r.layout r.bits [] r.allowed.items r.limits.items r.table.items → (w : Word) → Columns r.bits w → Has r Left w → ⊥
-  none_left t w hw p = let h = (t.left.of_row w hw).1 p in both_said r.limits.items (sets (marked r.bits w)) h.1.0 h.1.1
+  none_left t w hw p = let h = (t.left.of_row w hw).1 p in (let v = sets (marked r.bits w) in both_said (limits_after r.bits r.limits.items) v (claimed_after r.bits (row_numbers r.bits same_number) (each r.layout r.bits (allowed_local r.bits same_number r.allowed.items)) v r.limits.items h.1.0) h.1.1)
 
   left_tells : (js : List ℕ) → RuleClaims r.layout r.bits js r.allowed.items r.limits.items r.table.items → Tells r.bits (left_of r.layout r.bits js r.allowed.items r.limits.items r.table.items) (Has r Left)
   left_tells [] t = tells_row r.bits r.one (not1 (lies_within r.bits r.bits)) (Has r Left) (λ v w f hw g. (λ h. absurd (h (within_itself r.bits v)), λ p. absurd (none_left t w hw p)))

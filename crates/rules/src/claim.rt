@@ -11,6 +11,7 @@ ghost use Rattle.rules.specs.Property.{left_of};
 
 use crate::clauses::{of_pattern, of_patterns};
 use crate::formula::{of_formula, with_limits};
+use crate::limits::{none_after, with_limits_after};
 use crate::local::negated;
 use crate::numbers::Numbers;
 use crate::places::{Row, each, somewhere};
@@ -75,14 +76,15 @@ fn some_misfit(alloc: Global, rule: &Rule, after: &[u8]) -> Result<Claim, AllocE
     somewhere(alloc, row_of(rule), &other)
 }
 
-// Somewhere a module is as none of the patterns, or a limit does not hold.
+// Somewhere a module is as none of the patterns, or a limit does not hold that is asked of the row after.
 fn some_fault(alloc: Global, rule: &Rule, after: &[u8]) -> Result<Claim, AllocError>
-    ensures { IfOk result (λ c. said c ≡ Faults.fault_part rule.now.layout rule.now.bits (after_number rule.now.bits after.now) rule.now.allowed.items rule.now.limits.items) }
+    ensures { IfOk result (λ c. said c ≡ Faults.fault_part rule.now.layout rule.now.bits (after_number rule.now.bits after.now) rule.now.allowed.items (Faults.limits_after rule.now.bits rule.now.limits.items)) }
 {
-    if rule.limits.is_empty() {
+    if none_after(alloc, rule.bits, &rule.limits)? {
         return some_misfit(alloc, rule, after);
     }
-    let allowed = all_allowed(alloc, rule, after)?;
+    let fit = all_fit(alloc, rule, after)?;
+    let allowed = with_limits_after(alloc, rule, after, &rule.limits, fit)?;
     not(alloc, allowed)
 }
 

@@ -6,6 +6,7 @@ pub mod claim;
 pub mod clauses;
 pub mod formula;
 pub mod known;
+pub mod limits;
 pub mod local;
 pub mod numbers;
 pub mod places;

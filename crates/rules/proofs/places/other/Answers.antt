@@ -1,4 +1,4 @@
-use Rattle.std.proofs.Common.{◌≡◌, ℕ, ◌<◌, true, sym, ◌∙◌}
+use Rattle.std.proofs.Common.{sym, ◌∙◌}
 use Rattle.rules.proofs.FreshLaws.{taken, lowest_other, below_one, below_two}
 use Rattle.rules.proofs.places.other.Goals as goal
 
