@@ -6,6 +6,8 @@ use Rattle.formulas.specs.declared.formula.Formula.{Formula}
 use Rattle.trees.specs.declared.tree.Item.{Item}
 use Rattle.trees.specs.declared.tree.Item.TheVariants.{Free, Row, Formula as claimed}
 use Rattle.trees.specs.declared.tree.Row.{Row as Named}
+use Rattle.trees.specs.declared.tree.Ends.{Ends}
+use Rattle.trees.specs.declared.tree.Ends.TheVariants.{Last, Round}
 use Rattle.trees.specs.declared.tree.Sort.TheVariants.{Set}
 use Rattle.syntax.specs.Reads.{IsReadAs}
 use Rattle.syntax.specs.Views.{names_of}
@@ -39,8 +41,12 @@ abbrev pub declared : About → List (List ℕ) → List (List ℕ) → List ℕ
 declared a now after formula = before a now after ++ formula ++ codes "\n;\n"
 
 -- the row's places are called `row`, and its last place `last`
+abbrev pub EndsWith : Ends → List ℕ → Type 0
+EndsWith (Last x) name = string_bytes x.text ≡ name
+EndsWith Round name = ⊥
+
 abbrev pub IsRow : Named → Type 0
-IsRow r = (string_bytes r.places.text ≡ codes "row") × (string_bytes r.last.text ≡ codes "last")
+IsRow r = (string_bytes r.places.text ≡ codes "row") × EndsWith r.ends (codes "last")
 
 -- declarations of sets with these names and of the row, and one formula
 abbrev pub AreOne : About → List Item → List (List ℕ) → List (List ℕ) → Type 0

@@ -21,7 +21,7 @@ use syntax::parse::read;
 use tokens::kind::Kind;
 use tokens::token::tokens;
 use trees::position::Span;
-use trees::tree::{Item, Name, Row, Sort};
+use trees::tree::{Ends, Item, Name, Row, Sort};
 
 /// What a formula speaks of.
 #[derive(Clone, Copy, Debug, PartialEq, Eq)]
@@ -156,7 +156,10 @@ fn are_named(sets: &[Name], names: &[String]) -> bool
 fn is_row(row: &Row) -> bool
     ensures { OnTrue result (IsRow row.now) }
 {
-    row.places.text.as_str() == "row" && row.last.text.as_str() == "last"
+    match &row.ends {
+        Ends::Last(last) => row.places.text.as_str() == "row" && last.text.as_str() == "last",
+        Ends::Round => false,
+    }
 }
 
 // Whether the items are the bits, the row, the bits after the step where a formula speaks of these, and one formula. They are tested, since reading promises
