@@ -1,7 +1,6 @@
 -- Each claim that a rule makes tells of the row that its sets are.
 use Rattle.std.proofs.Common.{◌≡◌, ℕ, suc, ◌-◌, ◌<◌, ◌≤◌, Bool, true, false, not, ◌&&◌, ◌||◌, T, eqb, ltb, ◌⊎◌, ◌↔◌, List, [], ◌∷◌, length, sym, refl, ap, ◌∙◌, inl, inr, arith, lt→ltb, ltb→lt}
 use Rattle.std.proofs.lemmas.Bool.Decides.{eqb_tells}
-use Rattle.std.proofs.Math.Option.{none}
 use Rattle.words.specs.Words.{Sets, Word}
 use Rattle.claims.specs.Claims.{Holds, not1, and1}
 use Rattle.claims.proofs.FrontLaws.{both_passed, pass_both}
@@ -14,6 +13,7 @@ use Rattle.translation.specs.Translation.{claim}
 use Rattle.translation.proofs.Families.{Family}
 use Rattle.translation.proofs.Connectives.{iff_and, iff_not}
 use Rattle.translation.proofs.Formulas.{says}
+use Rattle.rows.specs.declared.rule.Layout.{Layout}
 use Rattle.rows.specs.declared.rule.Asked.{Asked}
 use Rattle.rows.specs.declared.rule.Literal.{Literal}
 use Rattle.rows.specs.declared.rule.Asked.TheVariants.{There, Bit}
@@ -29,7 +29,7 @@ use Rattle.rows.specs.Faults.{asked_ok, literals_ok, patterns_ok, lines_ok, memb
 use Rattle.rows.proofs.Bools.{bool_apart, found}
 use Rattle.rows.proofs.LocalLaws.{neg_eval, somewhere_says, each_says}
 use Rattle.rows.proofs.RuleLocalLaws.{as_view, fits_eval, allowed_eval, waits_eval}
-use Rattle.rows.proofs.Viewing.{Alike, fits_alike, any_alike, moves_alike, view_at, each_place, views}
+use Rattle.rows.proofs.Viewing.{Alike, fits_alike, any_alike, moves_alike, view_of, each_place, views}
 use Rattle.rows.proofs.NextLaws.{known, next_says}
 use Rattle.rows.proofs.LimitsLaws.{number_row, with_limits_says, limits_fail_says, stand_next}
 use Rattle.rows.proofs.RowShape.{has_module_says}
@@ -56,61 +56,61 @@ module _ (p q : ℕ → Bool) where
       pass_both (literals_ok (λ j. p j && q j) ps) (patterns_ok (λ j. p j && q j) pss) (literals_both ps a b) (patterns_both pss c e)
 
 -- what each module of a row sees, and what some module sees, by a claim
-module _ (b : ℕ) (ok : ℕ → Bool) (x : ℕ → ℕ) (v : Sets) (w : Word) (g : Gives b ok x v w) where
-  each_row : (f : Local) (P : View → Bool) → ((i : ℕ) → eval f v i ≡ P (as_view b x v i)) → ((s t : View) → Alike ok s t → P s ≡ P t) → Holds (each b f) v ↔ EachModule P w
+module _ (s : Layout) (b : ℕ) (ok : ℕ → Bool) (x : ℕ → ℕ) (v : Sets) (w : Word) (g : Gives b ok x v w) where
+  each_row : (f : Local) (P : View → Bool) → ((i : ℕ) → eval s (length w) f v i ≡ P (as_view s (length w) b x v i)) → ((u t : View) → Alike ok u t → P u ≡ P t) → Holds (each s b f) v ↔ EachModule s P w
   each_row f P e a =
-      let k = each_says v (length w) b f g.places in
-      let m = each_place P w in (
-        λ h. m.1 (λ i s. sym (e i ∙ a (as_view b x v i) (view_at none w i) (views b ok x v w g i s)) ∙ k.0 h i s),
-        λ h. k.1 (λ i s. e i ∙ (a (as_view b x v i) (view_at none w i) (views b ok x v w g i s) ∙ m.0 h i s)),
+      let k = each_says s v (length w) b f g.places in
+      let m = each_place s P w in (
+        λ h. m.1 (λ i l. sym (e i ∙ a (as_view s (length w) b x v i) (view_of s w i) (views s b ok x v w g i l)) ∙ k.0 h i l),
+        λ h. k.1 (λ i l. e i ∙ (a (as_view s (length w) b x v i) (view_of s w i) (views s b ok x v w g i l) ∙ m.0 h i l)),
       )
 
-  some_row_module : (f : Local) (P : View → Bool) → ((i : ℕ) → eval f v i ≡ P (as_view b x v i)) → ((s t : View) → Alike ok s t → P s ≡ P t) → Holds (somewhere b f) v ↔ (EachModule (λ s. not (P s)) w → ⊥)
+  some_row_module : (f : Local) (P : View → Bool) → ((i : ℕ) → eval s (length w) f v i ≡ P (as_view s (length w) b x v i)) → ((u t : View) → Alike ok u t → P u ≡ P t) → Holds (somewhere s b f) v ↔ (EachModule s (λ t. not (P t)) w → ⊥)
   some_row_module f P e a = (to, from)
     where
-      seen_there : (i : ℕ) → i < length w → eval f v i ≡ P (view_at none w i)
-      seen_there i s = e i ∙ a (as_view b x v i) (view_at none w i) (views b ok x v w g i s)
+      seen_there : (i : ℕ) → i < length w → eval s (length w) f v i ≡ P (view_of s w i)
+      seen_there i l = e i ∙ a (as_view s (length w) b x v i) (view_of s w i) (views s b ok x v w g i l)
 
-      to : Holds (somewhere b f) v → EachModule (λ s. not (P s)) w → ⊥
+      to : Holds (somewhere s b f) v → EachModule s (λ t. not (P t)) w → ⊥
       to h n =
-          let (i, s, t) = (somewhere_says v (length w) b f g.places).0 h in
-          bool_apart ((each_place (λ s. not (P s)) w).0 n i s) (ap not (sym (seen_there i s) ∙ t))
+          let (i, l, t) = (somewhere_says s v (length w) b f g.places).0 h in
+          bool_apart ((each_place s (λ t. not (P t)) w).0 n i l) (ap not (sym (seen_there i l) ∙ t))
 
-      from : (EachModule (λ s. not (P s)) w → ⊥) → Holds (somewhere b f) v
-      from n = elim (found (eval f v) (length w)) [
-        | inl p ↦ (somewhere_says v (length w) b f g.places).1 p
-        | inr q ↦ absurd (n ((each_place (λ s. not (P s)) w).1 (λ i s. ap not (sym (seen_there i s) ∙ q i s))))
+      from : (EachModule s (λ t. not (P t)) w → ⊥) → Holds (somewhere s b f) v
+      from n = elim (found (eval s (length w) f v) (length w)) [
+        | inl p ↦ (somewhere_says s v (length w) b f g.places).1 p
+        | inr q ↦ absurd (n ((each_place s (λ t. not (P t)) w).1 (λ i l. ap not (sym (seen_there i l) ∙ q i l))))
       ]
 
-  allowed_says : (pss : List (List Literal)) → T (patterns_ok ok pss) → Holds (each b (allowed_local b x pss)) v ↔ Allowed pss w
-  allowed_says pss h = each_row (allowed_local b x pss) (any_fits pss) (λ i. allowed_eval b x v i pss) (λ s t a. any_alike ok s t a pss h)
+  allowed_says : (pss : List (List Literal)) → T (patterns_ok ok pss) → Holds (each s b (allowed_local b x pss)) v ↔ Allowed s pss w
+  allowed_says pss h = each_row (allowed_local b x pss) (any_fits pss) (λ i. allowed_eval s (length w) b x v i pss) (λ u t a. any_alike ok u t a pss h)
 
-  stuck_says : (R : List Line) → T (lines_ok ok R) → Holds (each b (waits_local b x R)) v ↔ Stuck R w
-  stuck_says R h = each_row (waits_local b x R) (λ s. not (moves R s)) (λ i. waits_eval b x v i R) (λ s t a. ap not (moves_alike ok s t a R h))
+  stuck_says : (R : List Line) → T (lines_ok ok R) → Holds (each s b (waits_local b x R)) v ↔ Stuck s R w
+  stuck_says R h = each_row (waits_local b x R) (λ u. not (moves R u)) (λ i. waits_eval s (length w) b x v i R) (λ u t a. ap not (moves_alike ok u t a R h))
 
-  somewhere_fits : (ps : List Literal) → T (literals_ok ok ps) → Holds (somewhere b (fits_local b x ps)) v ↔ Somewhere ps w
-  somewhere_fits ps h = some_row_module (fits_local b x ps) (fits ps) (λ i. fits_eval b x v i ps) (λ s t a. fits_alike ok s t a ps h)
+  somewhere_fits : (ps : List Literal) → T (literals_ok ok ps) → Holds (somewhere s b (fits_local b x ps)) v ↔ Somewhere s ps w
+  somewhere_fits ps h = some_row_module (fits_local b x ps) (fits ps) (λ i. fits_eval s (length w) b x v i ps) (λ u t a. fits_alike ok u t a ps h)
 
-  not_allowed_says : (pss : List (List Literal)) → T (patterns_ok ok pss) → Holds (somewhere b (neg (allowed_local b x pss))) v ↔ (Allowed pss w → ⊥)
+  not_allowed_says : (pss : List (List Literal)) → T (patterns_ok ok pss) → Holds (somewhere s b (neg (allowed_local b x pss))) v ↔ (Allowed s pss w → ⊥)
   not_allowed_says pss h = (to, from)
     where
-      to : Holds (somewhere b (neg (allowed_local b x pss))) v → Allowed pss w → ⊥
+      to : Holds (somewhere s b (neg (allowed_local b x pss))) v → Allowed s pss w → ⊥
       to t al =
-          let (i, s, e) = (somewhere_says v (length w) b (neg (allowed_local b x pss)) g.places).0 t in
-          let all_eval = (each_says v (length w) b (allowed_local b x pss) g.places).0 ((allowed_says pss h).1 al) in
-          bool_apart (sym (neg_eval (allowed_local b x pss) v i) ∙ e) (ap not (all_eval i s))
+          let (i, l, e) = (somewhere_says s v (length w) b (neg (allowed_local b x pss)) g.places).0 t in
+          let all_eval = (each_says s v (length w) b (allowed_local b x pss) g.places).0 ((allowed_says pss h).1 al) in
+          bool_apart (sym (neg_eval s (length w) (allowed_local b x pss) v i) ∙ e) (ap not (all_eval i l))
 
-      from : (Allowed pss w → ⊥) → Holds (somewhere b (neg (allowed_local b x pss))) v
-      from n = elim (found (eval (neg (allowed_local b x pss)) v) (length w)) [
-        | inl p ↦ (somewhere_says v (length w) b (neg (allowed_local b x pss)) g.places).1 p
-        | inr q ↦ absurd (n ((allowed_says pss h).0 ((each_says v (length w) b (allowed_local b x pss) g.places).1 (λ i s. twice (eval (allowed_local b x pss) v i) (sym (neg_eval (allowed_local b x pss) v i) ∙ q i s)))))
+      from : (Allowed s pss w → ⊥) → Holds (somewhere s b (neg (allowed_local b x pss))) v
+      from n = elim (found (eval s (length w) (neg (allowed_local b x pss)) v) (length w)) [
+        | inl p ↦ (somewhere_says s v (length w) b (neg (allowed_local b x pss)) g.places).1 p
+        | inr q ↦ absurd (n ((allowed_says pss h).0 ((each_says s v (length w) b (allowed_local b x pss) g.places).1 (λ i l. twice (eval s (length w) (allowed_local b x pss) v i) (sym (neg_eval s (length w) (allowed_local b x pss) v i) ∙ q i l)))))
       ]
         where
           twice : (t : Bool) → not t ≡ false → t ≡ true
           twice true e = refl
           twice false e = bool_apart (sym e) refl
 
-module _ (b : ℕ) (one_bit : 1 ≤ b) (js : List ℕ) (pss : List (List Literal)) (l : List Formula) (R : List Line) (hp : T (patterns_ok (below b) pss)) (hl : T (limits_ok b l)) (hr : T (lines_ok (below b) R)) (hc : T (has_changed b js pss l R)) where
+module _ (s : Layout) (b : ℕ) (one_bit : 1 ≤ b) (js : List ℕ) (pss : List (List Literal)) (l : List Formula) (R : List Line) (hp : T (patterns_ok (below b) pss)) (hl : T (limits_ok b l)) (hr : T (lines_ok (below b) R)) (hc : T (has_changed b js pss l R)) where
   abbrev seen : ℕ → Bool
   seen j = member js j || unchanged R j
 
@@ -147,36 +147,36 @@ module _ (b : ℕ) (one_bit : 1 ≤ b) (js : List ℕ) (pss : List (List Literal
       one (inr e) p = let d = e.1 in rw e.0 (lt→ltb x b (let z = ltb→lt x (suc b) p in omega arith))
 
   module _ (v : Sets) (w : Word) (f : Family v) (g : Gives b (below b) same_number v w) where
-    allowed_row : Holds (allowed_part b same_number pss l) v ↔ AllowedRow b pss l w
-    allowed_row = with_limits_says b (below b) same_number v w f g (λ x t. ltb→lt x b t) refl l (named_row (names_of l) hl) (each b (allowed_local b same_number pss)) (allowed_says b (below b) same_number v w g pss hp)
+    allowed_row : Holds (allowed_part s b same_number pss l) v ↔ AllowedRow s b pss l w
+    allowed_row = with_limits_says b (below b) same_number v w f g (λ x t. ltb→lt x b t) refl l (named_row (names_of l) hl) (each s b (allowed_local b same_number pss)) (allowed_says s b (below b) same_number v w g pss hp)
 
-    left_row : Holds (next_claim b js R (fault_part b (after_number b js) pss l)) v ↔ (AllowedRow b pss l (step b R w) → ⊥)
-    left_row = next_says b js R bits_below w hr v f g (fault_part b (after_number b js) pss l) (AllowedRow b pss l (step b R w) → ⊥)
+    left_row : Holds (next_claim s b js R (fault_part s b (after_number b js) pss l)) v ↔ (AllowedRow s b pss l (step s b R w) → ⊥)
+    left_row = next_says b js R bits_below s w hr v f g (fault_part s b (after_number b js) pss l) (AllowedRow s b pss l (step s b R w) → ⊥)
         (λ z fz gz gy.
-        limits_fail_says b (known b js R) (after_number b js) z (step b R w) fz gy (λ x t. ltb→lt x b (both_passed (ltb x b) (seen x) t).0) (number_row b js bits_below) l (named_known (names_of l) hl asked.1) (each b (allowed_local b (after_number b js) pss)) (somewhere b (neg (allowed_local b (after_number b js) pss)))
-        (allowed_says b (known b js R) (after_number b js) z (step b R w) gy pss patterns_known) (not_allowed_says b (known b js R) (after_number b js) z (step b R w) gy pss patterns_known))
+        limits_fail_says b (known b js R) (after_number b js) z (step s b R w) fz gy (λ x t. ltb→lt x b (both_passed (ltb x b) (seen x) t).0) (number_row b js bits_below) l (named_known (names_of l) hl asked.1) (each s b (allowed_local b (after_number b js) pss)) (somewhere s b (neg (allowed_local b (after_number b js) pss)))
+        (allowed_says s b (known b js R) (after_number b js) z (step s b R w) gy pss patterns_known) (not_allowed_says s b (known b js R) (after_number b js) z (step s b R w) gy pss patterns_known))
       where
         patterns_known : T (patterns_ok (known b js R) pss)
         patterns_known = patterns_both (below b) seen pss hp asked.0
 
-    fails_row : (ks : List ℕ) (a : Formula) → T (has_named b ks a) → Holds (next_claim b ks R (not1 (claim a (row_numbers b same_number)))) v ↔ (Meaning a (row_env b w (step b R w)) → ⊥)
+    fails_row : (ks : List ℕ) (a : Formula) → T (has_named b ks a) → Holds (next_claim s b ks R (not1 (claim a (row_numbers b same_number)))) v ↔ (Meaning a (row_env b w (step s b R w)) → ⊥)
     fails_row ks a h =
         let (k, t) = both_passed (all_below b ks) (groups_ok (λ x. ltb x (suc b) || member ks (x - suc b)) (names a)) h in
-        next_says b ks R k w hr v f g (not1 (claim a (row_numbers b same_number))) (Meaning a (row_env b w (step b R w)) → ⊥)
-        (λ z fz gz gy. iff_not (says a (row_numbers b same_number) (row_env b w (step b R w)) z fz (stand_next b ks R k z w (step b R w) gz gy (names a) t)))
+        next_says b ks R k s w hr v f g (not1 (claim a (row_numbers b same_number))) (Meaning a (row_env b w (step s b R w)) → ⊥)
+        (λ z fz gz gy. iff_not (says a (row_numbers b same_number) (row_env b w (step s b R w)) z fz (stand_next b ks R k z w (step s b R w) gz gy (names a) t)))
 
-  rule_claims : RuleClaims b js pss l R
+  rule_claims : RuleClaims s b js pss l R
   rule_claims = record {
-    allowed = tells b one_bit (and1 (has_module b) (allowed_part b same_number pss l)) (λ w. (w ≡ [] → ⊥) × AllowedRow b pss l w) (λ v w f hw g. iff_and (has_module_says b one_bit v w g) (allowed_row v w f g));
-    stuck = tells b one_bit (and1 (has_module b) (and1 (allowed_part b same_number pss l) (each b (waits_local b same_number R)))) (λ w. (w ≡ [] → ⊥) × (AllowedRow b pss l w × Stuck R w))
-        (λ v w f hw g. iff_and (has_module_says b one_bit v w g) (iff_and (allowed_row v w f g) (stuck_says b (below b) same_number v w g R hr)));
-    left = tells b one_bit (and1 (allowed_part b same_number pss l) (next_claim b js R (fault_part b (after_number b js) pss l))) (λ w. AllowedRow b pss l w × (AllowedRow b pss l (step b R w) → ⊥))
+    allowed = tells b one_bit (and1 (has_module b) (allowed_part s b same_number pss l)) (λ w. (w ≡ [] → ⊥) × AllowedRow s b pss l w) (λ v w f hw g. iff_and (has_module_says b one_bit v w g) (allowed_row v w f g));
+    stuck = tells b one_bit (and1 (has_module b) (and1 (allowed_part s b same_number pss l) (each s b (waits_local b same_number R)))) (λ w. (w ≡ [] → ⊥) × (AllowedRow s b pss l w × Stuck s R w))
+        (λ v w f hw g. iff_and (has_module_says b one_bit v w g) (iff_and (allowed_row v w f g) (stuck_says s b (below b) same_number v w g R hr)));
+    left = tells b one_bit (and1 (allowed_part s b same_number pss l) (next_claim s b js R (fault_part s b (after_number b js) pss l))) (λ w. AllowedRow s b pss l w × (AllowedRow s b pss l (step s b R w) → ⊥))
         (λ v w f hw g. iff_and (allowed_row v w f g) (left_row v w f g));
-    place = λ ps hs. tells b one_bit (and1 (allowed_part b same_number pss l) (somewhere b (fits_local b same_number ps))) (λ w. AllowedRow b pss l w × Somewhere ps w)
-        (λ v w f hw g. iff_and (allowed_row v w f g) (somewhere_fits b (below b) same_number v w g ps hs));
-    fails = λ ks a h. tells b one_bit (and1 (has_module b) (and1 (allowed_part b same_number pss l) (next_claim b ks R (not1 (claim a (row_numbers b same_number)))))) (λ w. (w ≡ [] → ⊥) × (AllowedRow b pss l w × (Meaning a (row_env b w (step b R w)) → ⊥)))
+    place = λ ps hs. tells b one_bit (and1 (allowed_part s b same_number pss l) (somewhere s b (fits_local b same_number ps))) (λ w. AllowedRow s b pss l w × Somewhere s ps w)
+        (λ v w f hw g. iff_and (allowed_row v w f g) (somewhere_fits s b (below b) same_number v w g ps hs));
+    fails = λ ks a h. tells b one_bit (and1 (has_module b) (and1 (allowed_part s b same_number pss l) (next_claim s b ks R (not1 (claim a (row_numbers b same_number)))))) (λ w. (w ≡ [] → ⊥) × (AllowedRow s b pss l w × (Meaning a (row_env b w (step s b R w)) → ⊥)))
         (λ v w f hw g. iff_and (has_module_says b one_bit v w g) (iff_and (allowed_row v w f g) (fails_row v w f g ks a h)));
   }
 
 pub rule_claims_tell : RuleClaimsTell
-rule_claims_tell b js pss l R h hp hl hr hc = rule_claims b h js pss l R hp hl hr hc
+rule_claims_tell s b js pss l R h hp hl hr hc = rule_claims s b h js pss l R hp hl hr hc

@@ -1,19 +1,19 @@
 -- What a claim of the row after says, whose changed bits are sets of their own.
 use Rattle.std.proofs.Common.{◌≡◌, ℕ, zero, suc, ◌+◌, ◌<◌, Bool, true, false, cond, ◌&&◌, ◌||◌, T, ltb, ◌⊎◌, ◌↔◌, List, [], ◌∷◌, length, map, sym, refl, ap, ◌∙◌, subst, inl, inr, arith, ltb→lt}
 use native.Mathlib.Decide.{dec_lt}
-use Rattle.std.proofs.Math.Option.{none}
 use Rattle.words.specs.Words.{Sets, Word, bit, sets}
 use Rattle.claims.specs.Claims.{has, put, C, Holds, within}
 use Rattle.claims.proofs.FrontLaws.{both_passed}
 use Rattle.claims.proofs.PlacesLaws.{put_same, put_other}
 use Rattle.translation.proofs.Families.{Family, family_put}
 use Rattle.translation.proofs.Opened.{within_holds}
+use Rattle.rows.specs.declared.rule.Layout.{Layout}
 use Rattle.rows.specs.Rules.{Line}
 use Rattle.rows.specs.Rows.{step}
 use Rattle.rows.specs.RowClaims.{below, same_number, Gives}
 use Rattle.rows.specs.Faults.{lines_ok, member, unchanged, all_below, after_number, some_row, after_step, groups, next_claim}
 use Rattle.rows.proofs.Bools.{not_true}
-use Rattle.rows.proofs.StepLaws.{step_length, sets_below, sets_end}
+use Rattle.rows.proofs.StepLaws.{as_long, sets_below, sets_end}
 use Rattle.rows.proofs.AfterLaws.{Has, has_or_not, after_says, unchanged_bits}
 
 pub passed_true : (b : Bool) → T b → b ≡ true
@@ -107,24 +107,24 @@ module _ (b : ℕ) (js : List ℕ) (R : List Line) (bits_below : T (all_below b 
   pub number_same : (j : ℕ) → member js j ≡ false → after_number b js j ≡ j
   number_same j e = subst (λ t. cond t (suc b + j) j ≡ j) (sym e) refl
 
-  module _ (w : Word) where
+  module _ (s : Layout) (w : Word) where
     -- a family that has row w, and the changed bits of the row after, has the row after
-    module _ (z : Sets) (g : Gives b (below b) same_number z w) (right : (j : ℕ) → Has j js → (i : ℕ) → i < length w → z (after_number b js j) i ≡ sets (step b R w) j i) (inn : (j i : ℕ) → Has j js → z (suc b + j) i ≡ true → z b i ≡ true) where
-      changed_bit : (j i : ℕ) → Has j js → z (after_number b js j) i ≡ sets (step b R w) j i
+    module _ (z : Sets) (g : Gives b (below b) same_number z w) (right : (j : ℕ) → Has j js → (i : ℕ) → i < length w → z (after_number b js j) i ≡ sets (step s b R w) j i) (inn : (j i : ℕ) → Has j js → z (suc b + j) i ≡ true → z b i ≡ true) where
+      changed_bit : (j i : ℕ) → Has j js → z (after_number b js j) i ≡ sets (step s b R w) j i
       changed_bit j i h = elim (dec_lt i (length w)) [
         | yes l ↦ right j h i l
         | no l ↦
             not_true (z (after_number b js j) i) (λ e. (let p = (g.places i).0 (inn j i h (subst (λ q. z q i ≡ true) (number_changed j h) e)) in omega arith))
-            ∙ sym (sets_end (step b R w) j i (let s = step_length b R none w in omega arith))
+            ∙ sym (sets_end (step s b R w) j i (let e = as_long s b R w in omega arith))
       ]
 
-      same_bit : (j i : ℕ) → T (ltb j b) → member js j ≡ false → unchanged R j ≡ true → z (after_number b js j) i ≡ sets (step b R w) j i
+      same_bit : (j i : ℕ) → T (ltb j b) → member js j ≡ false → unchanged R j ≡ true → z (after_number b js j) i ≡ sets (step s b R w) j i
       same_bit j i l m u = ap (λ q. z q i) (number_same j m) ∙ (g.bits j i l ∙ elim (dec_lt i (length w)) [
-        | yes s ↦ sym (unchanged_bits b R w j i l u s)
-        | no s ↦ sets_end w j i (omega arith) ∙ sym (sets_end (step b R w) j i (let e = step_length b R none w in omega arith))
+        | yes g ↦ sym (unchanged_bits s b R w j i l u g)
+        | no g ↦ sets_end w j i (omega arith) ∙ sym (sets_end (step s b R w) j i (let e = as_long s b R w in omega arith))
       ])
 
-      bit_is : (j i : ℕ) → T (known b js R j) → z (after_number b js j) i ≡ sets (step b R w) j i
+      bit_is : (j i : ℕ) → T (known b js R j) → z (after_number b js j) i ≡ sets (step s b R w) j i
       bit_is j i t =
           let (l, k) = both_passed (ltb j b) (member js j || unchanged R j) t in
           elim (has_or_not js j) [
@@ -132,41 +132,41 @@ module _ (b : ℕ) (js : List ℕ) (R : List Line) (bits_below : T (all_below b 
             | inr p ↦ same_bit j i l p.1 (passed_true (unchanged R j) (subst (λ q. T (q || unchanged R j)) p.1 k))
           ]
 
-      after_gives : Gives b (known b js R) (after_number b js) z (step b R w)
+      after_gives : Gives b (known b js R) (after_number b js) z (step s b R w)
       after_gives = record {
-        places = λ i. (let s = step_length b R none w in (λ e. (let z = (g.places i).0 e in omega arith), λ l. (g.places i).1 (omega arith)));
+        places = λ i. (let a = as_long s b R w in (λ e. (let z = (g.places i).0 e in omega arith), λ l. (g.places i).1 (omega arith)));
         bits = bit_is;
       }
 
     -- A claim tells in each family of sets that has row w and the row after it whether Q. Then of the row after it tells in each family that has row w whether Q.
-    module _ (hr : T (lines_ok (below b) R)) (v : Sets) (f : Family v) (g : Gives b (below b) same_number v w) (X : C) (Q : Type 0) (says : (z : Sets) → Family z → Gives b (below b) same_number z w → Gives b (known b js R) (after_number b js) z (step b R w) → Holds X z ↔ Q) where
-      next_to : Holds (next_claim b js R X) v → Q
-      next_to h = at (some_row_to b js (after_step b (after_number b js) R (groups js) X) v f h)
+    module _ (hr : T (lines_ok (below b) R)) (v : Sets) (f : Family v) (g : Gives b (below b) same_number v w) (X : C) (Q : Type 0) (says : (z : Sets) → Family z → Gives b (below b) same_number z w → Gives b (known b js R) (after_number b js) z (step s b R w) → Holds X z ↔ Q) where
+      next_to : Holds (next_claim s b js R X) v → Q
+      next_to h = at (some_row_to b js (after_step s b (after_number b js) R (groups js) X) v f h)
         where
-          at : Chosen b js (after_step b (after_number b js) R (groups js) X) v → Q
+          at : Chosen b js (after_step s b (after_number b js) R (groups js) X) v → Q
           at r =
               let low : (y i : ℕ) → y < suc b → r.chosen y i ≡ v y i = λ y i l. r.kept y i (λ k m f. omega arith) in
               let gz : Gives b (below b) same_number r.chosen w = record {
                 places = λ i. (λ e. (g.places i).0 (sym (low b i (omega arith)) ∙ e), λ l. low b i (omega arith) ∙ (g.places i).1 l);
                 bits = λ j i l. low j i (let z = ltb→lt j b l in omega arith) ∙ g.bits j i l;
               } in
-              let s = (after_says b (after_number b js) r.chosen w gz R hr js X bits_below).0 r.holds in
-              (says r.chosen r.family gz (after_gives r.chosen gz s.0 (λ j i h e. low b i (omega arith) ∙ r.inner j i h e))).0 s.1
+              let a = (after_says s b (after_number b js) r.chosen w gz R hr js X bits_below).0 r.holds in
+              (says r.chosen r.family gz (after_gives r.chosen gz a.0 (λ j i h e. low b i (omega arith) ∙ r.inner j i h e))).0 a.1
 
       abbrev z : Sets
-      z = put_row b js (step b R w) v
+      z = put_row b js (step s b R w) v
 
-      next_from : Q → Holds (next_claim b js R X) v
+      next_from : Q → Holds (next_claim s b js R X) v
       next_from q =
-          some_row_from b js (after_step b (after_number b js) R (groups js) X) (step b R w) v (λ j i e. (g.places i).1 (in_row j i e))
-          ((after_says b (after_number b js) z w gz R hr js X bits_below).1
-          (λ j h i l. right j h i, (says z (put_row_family b js (step b R w) v f) gz (after_gives z gz (λ j h i l. right j h i) inn)).1 q))
+          some_row_from b js (after_step s b (after_number b js) R (groups js) X) (step s b R w) v (λ j i e. (g.places i).1 (in_row j i e))
+          ((after_says s b (after_number b js) z w gz R hr js X bits_below).1
+          (λ j h i l. right j h i, (says z (put_row_family b js (step s b R w) v f) gz (after_gives z gz (λ j h i l. right j h i) inn)).1 q))
         where
-          in_row : (j i : ℕ) → sets (step b R w) j i ≡ true → i < length w
-          in_row j i e = let l = sets_below (step b R w) j i e in let s = step_length b R none w in omega arith
+          in_row : (j i : ℕ) → sets (step s b R w) j i ≡ true → i < length w
+          in_row j i e = let l = sets_below (step s b R w) j i e in let e = as_long s b R w in omega arith
 
           low : (y i : ℕ) → y < suc b → z y i ≡ v y i
-          low y i l = put_row_other b js (step b R w) v y i (λ j s e. omega arith)
+          low y i l = put_row_other b js (step s b R w) v y i (λ j s e. omega arith)
 
           gz : Gives b (below b) same_number z w
           gz = record {
@@ -174,11 +174,11 @@ module _ (b : ℕ) (js : List ℕ) (R : List Line) (bits_below : T (all_below b 
             bits = λ j i l. low j i (let m = ltb→lt j b l in omega arith) ∙ g.bits j i l;
           }
 
-          right : (j : ℕ) → Has j js → (i : ℕ) → z (after_number b js j) i ≡ sets (step b R w) j i
-          right j h i = ap (λ q. z q i) (number_changed j h) ∙ put_row_same b js (step b R w) v j i h
+          right : (j : ℕ) → Has j js → (i : ℕ) → z (after_number b js j) i ≡ sets (step s b R w) j i
+          right j h i = ap (λ q. z q i) (number_changed j h) ∙ put_row_same b js (step s b R w) v j i h
 
           inn : (j i : ℕ) → Has j js → z (suc b + j) i ≡ true → z b i ≡ true
-          inn j i h e = (gz.places i).1 (in_row j i (sym (put_row_same b js (step b R w) v j i h) ∙ e))
+          inn j i h e = (gz.places i).1 (in_row j i (sym (put_row_same b js (step s b R w) v j i h) ∙ e))
 
-      pub next_says : Holds (next_claim b js R X) v ↔ Q
+      pub next_says : Holds (next_claim s b js R X) v ↔ Q
       next_says = (next_to, next_from)

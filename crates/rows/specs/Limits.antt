@@ -9,6 +9,7 @@ use Rattle.formulas.specs.Meaning.{Env, Meaning}
 use Rattle.formulas.specs.Names.{names}
 use Rattle.translation.specs.Numbers.{Numbering, numbered}
 use Rattle.translation.specs.Translation.{claim}
+use Rattle.rows.specs.declared.rule.Layout.{Layout}
 use Rattle.rows.specs.declared.rule.Literal.{Literal}
 use Rattle.rows.specs.Rows.{Allowed}
 
@@ -22,8 +23,8 @@ AllMean [] e = Unit {0}
 AllMean (a ∷ l) e = Meaning a e × AllMean l e
 
 -- each module with its neighbours is as one of the patterns says, and each of the limits holds of the row
-abbrev pub AllowedRow : ℕ → List (List Literal) → List Formula → Word → Type 0
-AllowedRow b pss l w = Allowed pss w × AllMean l (row_env b w w)
+abbrev pub AllowedRow : Layout → ℕ → List (List Literal) → List Formula → Word → Type 0
+AllowedRow s b pss l w = Allowed s pss w × AllMean l (row_env b w w)
 
 -- the names that are free in the formulas
 abbrev pub names_of : List Formula → List Name

@@ -1,4 +1,4 @@
-// What is asked of a module and its neighbours, and what a module's bits come to.
+// How modules lie, what is asked of a module and its neighbours, and what a module's bits come to.
 
 /// A module itself, or the neighbour on one side of it.
 #[derive(Clone, Copy, Debug, PartialEq, Eq)]
@@ -8,7 +8,14 @@ pub enum Side {
     Right,
 }
 
-/// What is asked of a module's place or of a neighbour's: whether a module stands there, and whether its bit with this number, from 0 on, is set. Beyond an end of the row neither is so.
+/// How the modules of a row lie: in a line, beyond whose two ends there is nothing, or in a ring, in which the last module's right neighbour is the first.
+#[derive(Clone, Copy, Debug, PartialEq, Eq)]
+pub enum Layout {
+    Line,
+    Ring,
+}
+
+/// What is asked of a module's place or of a neighbour's: whether a module stands there, and whether its bit with this number, from 0 on, is set. Beyond an end of a line neither is so.
 #[derive(Clone, Copy, Debug, PartialEq, Eq)]
 pub enum Asked {
     There,
@@ -23,7 +30,7 @@ pub struct Literal {
     pub set: bool,
 }
 
-/// A bit of a module after the step: set or not, or as the bit with this number of the module or of a neighbour was. Beyond an end of the row no bit is set.
+/// A bit of a module after the step: set or not, or as the bit with this number of the module or of a neighbour was. Beyond an end of a line no bit is set.
 #[derive(Clone, Copy, Debug, PartialEq, Eq)]
 pub enum NewBit {
     Fixed(bool),
