@@ -5,6 +5,7 @@ use Rattle.claims.specs.Claims.{C, within, not1, and1}
 use Rattle.formulas.specs.Meaning.{Meaning}
 use Rattle.formulas.specs.Names.{names}
 use Rattle.formulas.specs.declared.formula.Formula.{Formula}
+use Rattle.rows.specs.declared.rule.Layout.{Layout}
 use Rattle.rows.specs.declared.rule.Literal.{Literal}
 use Rattle.rows.specs.Rules.{Line}
 use Rattle.rows.specs.Rows as rows
@@ -21,18 +22,18 @@ use Rattle.rules.specs.declared.property.Property.TheVariants.{Allowed, Stuck, L
 
 -- each module is as one of the rule's patterns says, and each limit holds of the row
 abbrev pub IsAllowed : Rule → Word → Type 0
-IsAllowed r w = AllowedRow r.bits r.allowed.items r.limits.items w
+IsAllowed r w = AllowedRow r.layout r.bits r.allowed.items r.limits.items w
 
 -- the row after one step
 abbrev pub after : Rule → Word → Word
-after r w = step r.bits r.table.items w
+after r w = step r.layout r.bits r.table.items w
 
 -- the row has the property; the empty row is no answer to the first two and to the last
 abbrev pub Has : Rule → Property → Word → Type 0
 Has r Allowed w = (w ≢ []) × IsAllowed r w
-Has r Stuck w = (w ≢ []) × (IsAllowed r w × rows.Stuck r.table.items w)
+Has r Stuck w = (w ≢ []) × (IsAllowed r w × rows.Stuck r.layout r.table.items w)
 Has r Left w = IsAllowed r w × (IsAllowed r (after r w) → ⊥)
-Has r (Met p) w = IsAllowed r w × Somewhere p w
+Has r (Met p) w = IsAllowed r w × Somewhere r.layout p w
 Has r (Fails a) w = (w ≢ []) × (IsAllowed r w × (Meaning a.value (row_env r.bits w (after r w)) → ⊥))
 
 -- whether it names only bits that a module of the rule has, and its formula only sets of the row and of the row after
@@ -47,16 +48,16 @@ abbrev pub IsOf : Rule → Property → Type 0
 IsOf r p = IsTrue (is_of r p)
 
 -- a row that is allowed, and the row after is not; where no line changes a bit that is asked for there is none, and that is what is claimed
-abbrev pub left_of : ℕ → List ℕ → List (List Literal) → List Formula → List Line → C
-left_of b [] pss l R = and1 (is_row b) (not1 (within b b))
-left_of b (j ∷ js) pss l R = left_claim b (j ∷ js) pss l R
+abbrev pub left_of : Layout → ℕ → List ℕ → List (List Literal) → List Formula → List Line → C
+left_of s b [] pss l R = and1 (is_row b) (not1 (within b b))
+left_of s b (j ∷ js) pss l R = left_claim s b (j ∷ js) pss l R
 
 abbrev pub claim_of : Rule → Property → C
-claim_of r Allowed = allowed_claim r.bits r.allowed.items r.limits.items
-claim_of r Stuck = stuck_claim r.bits r.allowed.items r.limits.items r.table.items
-claim_of r Left = left_of r.bits (changed r.bits r.allowed.items r.limits.items r.table.items) r.allowed.items r.limits.items r.table.items
-claim_of r (Met p) = place_claim r.bits r.allowed.items r.limits.items p
-claim_of r (Fails a) = fails_claim r.bits (named_after r.bits a.value) r.allowed.items r.limits.items r.table.items a.value
+claim_of r Allowed = allowed_claim r.layout r.bits r.allowed.items r.limits.items
+claim_of r Stuck = stuck_claim r.layout r.bits r.allowed.items r.limits.items r.table.items
+claim_of r Left = left_of r.layout r.bits (changed r.bits r.allowed.items r.limits.items r.table.items) r.allowed.items r.limits.items r.table.items
+claim_of r (Met p) = place_claim r.layout r.bits r.allowed.items r.limits.items p
+claim_of r (Fails a) = fails_claim r.layout r.bits (named_after r.bits a.value) r.allowed.items r.limits.items r.table.items a.value
 
 -- why a property is not asked of a rule: only memory can be wanting where it names what the rule has
 abbrev pub Unasked : Rule → Property → Unsound → Type 0

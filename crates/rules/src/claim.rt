@@ -13,7 +13,7 @@ use crate::clauses::{of_pattern, of_patterns};
 use crate::formula::{of_formula, with_limits};
 use crate::local::negated;
 use crate::numbers::Numbers;
-use crate::places::{each, somewhere};
+use crate::places::{Row, each, somewhere};
 use crate::row::{has_module, is_row, some_row};
 use crate::rule::Rule;
 use crate::step::after_step;
@@ -23,9 +23,19 @@ use formulas::formula::Formula;
 use rows::rule::Literal;
 use std::alloc::{AllocError, Global};
 
+// The row of which the rule's claims speak: its places are the set behind the bits.
+fn row_of(rule: &Rule) -> Row
+    ensures { result ≡ record { layout = rule.now.layout; places = rule.now.bits } }
+{
+    Row {
+        layout: rule.layout,
+        places: rule.bits,
+    }
+}
+
 // Each module is as one of the patterns, where the listed bits are those of the row after.
 fn all_fit(alloc: Global, rule: &Rule, after: &[u8]) -> Result<Claim, AllocError>
-    ensures { IfOk result (λ c. said c ≡ local.each rule.now.bits (allowed_local rule.now.bits (after_number rule.now.bits after.now) rule.now.allowed.items)) }
+    ensures { IfOk result (λ c. said c ≡ local.each rule.now.layout rule.now.bits (allowed_local rule.now.bits (after_number rule.now.bits after.now) rule.now.allowed.items)) }
 {
     let x = Numbers {
         bits: rule.bits,
@@ -33,14 +43,14 @@ fn all_fit(alloc: Global, rule: &Rule, after: &[u8]) -> Result<Claim, AllocError
     };
     each(
         alloc,
-        rule.bits as usize,
+        row_of(rule),
         of_patterns(alloc, &x, &rule.allowed)?,
     )
 }
 
 // Each module is as one of the patterns, and the limits hold.
 fn all_allowed(alloc: Global, rule: &Rule, after: &[u8]) -> Result<Claim, AllocError>
-    ensures { IfOk result (λ c. said c ≡ Faults.allowed_part rule.now.bits (after_number rule.now.bits after.now) rule.now.allowed.items rule.now.limits.items) }
+    ensures { IfOk result (λ c. said c ≡ Faults.allowed_part rule.now.layout rule.now.bits (after_number rule.now.bits after.now) rule.now.allowed.items rule.now.limits.items) }
 {
     let fit = all_fit(alloc, rule, after)?;
     with_limits(alloc, rule, after, &rule.limits, fit)
@@ -48,7 +58,7 @@ fn all_allowed(alloc: Global, rule: &Rule, after: &[u8]) -> Result<Claim, AllocE
 
 // Each module waits.
 fn all_wait(alloc: Global, rule: &Rule) -> Result<Claim, AllocError>
-    ensures { IfOk result (λ c. said c ≡ local.each rule.now.bits (waits_local rule.now.bits same_number rule.now.table.items)) }
+    ensures { IfOk result (λ c. said c ≡ local.each rule.now.layout rule.now.bits (waits_local rule.now.bits same_number rule.now.table.items)) }
 {
     let x = Numbers {
         bits: rule.bits,
@@ -56,26 +66,26 @@ fn all_wait(alloc: Global, rule: &Rule) -> Result<Claim, AllocError>
     };
     each(
         alloc,
-        rule.bits as usize,
+        row_of(rule),
         of_waiting(alloc, &x, &rule.table)?,
     )
 }
 
 // Somewhere a module is as none of the patterns, where the listed bits are those of the row after.
 fn some_misfit(alloc: Global, rule: &Rule, after: &[u8]) -> Result<Claim, AllocError>
-    ensures { IfOk result (λ c. said c ≡ local.somewhere rule.now.bits (local.neg (allowed_local rule.now.bits (after_number rule.now.bits after.now) rule.now.allowed.items))) }
+    ensures { IfOk result (λ c. said c ≡ local.somewhere rule.now.layout rule.now.bits (local.neg (allowed_local rule.now.bits (after_number rule.now.bits after.now) rule.now.allowed.items))) }
 {
     let y = Numbers {
         bits: rule.bits,
         after,
     };
     let other = negated(alloc, of_patterns(alloc, &y, &rule.allowed)?)?;
-    somewhere(alloc, rule.bits as usize, &other)
+    somewhere(alloc, row_of(rule), &other)
 }
 
 // Somewhere a module is as none of the patterns, or a limit does not hold.
 fn some_fault(alloc: Global, rule: &Rule, after: &[u8]) -> Result<Claim, AllocError>
-    ensures { IfOk result (λ c. said c ≡ Faults.fault_part rule.now.bits (after_number rule.now.bits after.now) rule.now.allowed.items rule.now.limits.items) }
+    ensures { IfOk result (λ c. said c ≡ Faults.fault_part rule.now.layout rule.now.bits (after_number rule.now.bits after.now) rule.now.allowed.items rule.now.limits.items) }
 {
     if rule.limits.is_empty() {
         return some_misfit(alloc, rule, after);
@@ -86,13 +96,13 @@ fn some_fault(alloc: Global, rule: &Rule, after: &[u8]) -> Result<Claim, AllocEr
 
 // There are sets that are the listed bits of the row after, and of them the claim holds.
 fn in_next_row(alloc: Global, rule: &Rule, after: &[u8], claim: Claim) -> Result<Claim, AllocError>
-    ensures { IfOk result (λ c. said c ≡ Faults.next_claim rule.now.bits after.now rule.now.table.items (said claim)) }
+    ensures { IfOk result (λ c. said c ≡ Faults.next_claim rule.now.layout rule.now.bits after.now rule.now.table.items (said claim)) }
 {
     let y = Numbers {
         bits: rule.bits,
         after,
     };
-    let step = after_step(alloc, &y, after, &rule.table, claim)?;
+    let step = after_step(alloc, rule.layout, &y, after, &rule.table, claim)?;
     some_row(alloc, rule.bits, after, step)
 }
 
@@ -113,7 +123,7 @@ fn row_with_module(alloc: Global, rule: &Rule, claim: Claim) -> Result<Claim, Al
 
 /// A row with a module that is allowed.
 pub fn allowed_claim(alloc: Global, rule: &Rule) -> Result<Claim, AllocError>
-    ensures { IfOk result (λ c. said c ≡ Faults.allowed_claim rule.now.bits rule.now.allowed.items rule.now.limits.items) }
+    ensures { IfOk result (λ c. said c ≡ Faults.allowed_claim rule.now.layout rule.now.bits rule.now.allowed.items rule.now.limits.items) }
 {
     let allowed = all_allowed(alloc, rule, &[])?;
     row_with_module(alloc, rule, allowed)
@@ -121,7 +131,7 @@ pub fn allowed_claim(alloc: Global, rule: &Rule) -> Result<Claim, AllocError>
 
 // A row with a module that is allowed, and a claim about it.
 fn module_and(alloc: Global, rule: &Rule, claim: Claim) -> Result<Claim, AllocError>
-    ensures { IfOk result (λ c. said c ≡ and1 (is_row rule.now.bits) (and1 (has_module rule.now.bits) (and1 (Faults.allowed_part rule.now.bits same_number rule.now.allowed.items rule.now.limits.items) (said claim)))) }
+    ensures { IfOk result (λ c. said c ≡ and1 (is_row rule.now.bits) (and1 (has_module rule.now.bits) (and1 (Faults.allowed_part rule.now.layout rule.now.bits same_number rule.now.allowed.items rule.now.limits.items) (said claim)))) }
 {
     let allowed = and(alloc, all_allowed(alloc, rule, &[])?, claim)?;
     row_with_module(alloc, rule, allowed)
@@ -129,7 +139,7 @@ fn module_and(alloc: Global, rule: &Rule, claim: Claim) -> Result<Claim, AllocEr
 
 /// A row with a module that is allowed and stuck.
 pub fn stuck_claim(alloc: Global, rule: &Rule) -> Result<Claim, AllocError>
-    ensures { IfOk result (λ c. said c ≡ Faults.stuck_claim rule.now.bits rule.now.allowed.items rule.now.limits.items rule.now.table.items) }
+    ensures { IfOk result (λ c. said c ≡ Faults.stuck_claim rule.now.layout rule.now.bits rule.now.allowed.items rule.now.limits.items rule.now.table.items) }
 {
     let stuck = all_wait(alloc, rule)?;
     module_and(alloc, rule, stuck)
@@ -137,7 +147,7 @@ pub fn stuck_claim(alloc: Global, rule: &Rule) -> Result<Claim, AllocError>
 
 // A row that is allowed, and a claim about it.
 fn allowed_and(alloc: Global, rule: &Rule, claim: Claim) -> Result<Claim, AllocError>
-    ensures { IfOk result (λ c. said c ≡ and1 (is_row rule.now.bits) (and1 (Faults.allowed_part rule.now.bits same_number rule.now.allowed.items rule.now.limits.items) (said claim))) }
+    ensures { IfOk result (λ c. said c ≡ and1 (is_row rule.now.bits) (and1 (Faults.allowed_part rule.now.layout rule.now.bits same_number rule.now.allowed.items rule.now.limits.items) (said claim))) }
 {
     let allowed = and(alloc, all_allowed(alloc, rule, &[])?, claim)?;
     row_with(alloc, rule, allowed)
@@ -145,20 +155,20 @@ fn allowed_and(alloc: Global, rule: &Rule, claim: Claim) -> Result<Claim, AllocE
 
 /// A row that is allowed, and somewhere a module is as the pattern says.
 pub fn place_claim(alloc: Global, rule: &Rule, pattern: &[Literal]) -> Result<Claim, AllocError>
-    ensures { IfOk result (λ c. said c ≡ Faults.place_claim rule.now.bits rule.now.allowed.items rule.now.limits.items pattern.now) }
+    ensures { IfOk result (λ c. said c ≡ Faults.place_claim rule.now.layout rule.now.bits rule.now.allowed.items rule.now.limits.items pattern.now) }
 {
     let x = Numbers {
         bits: rule.bits,
         after: &[],
     };
     let fits = of_pattern(alloc, &x, pattern)?;
-    let met = somewhere(alloc, rule.bits as usize, &fits)?;
+    let met = somewhere(alloc, row_of(rule), &fits)?;
     allowed_and(alloc, rule, met)
 }
 
 /// A row that is allowed, and the row after one step is not. Of the row after the listed bits are claimed to be there; the others are those of the row.
 pub fn left_claim(alloc: Global, rule: &Rule, changed: &[u8]) -> Result<Claim, AllocError>
-    ensures { IfOk result (λ c. said c ≡ Faults.left_claim rule.now.bits changed.now rule.now.allowed.items rule.now.limits.items rule.now.table.items) }
+    ensures { IfOk result (λ c. said c ≡ Faults.left_claim rule.now.layout rule.now.bits changed.now rule.now.allowed.items rule.now.limits.items rule.now.table.items) }
 {
     let fault = some_fault(alloc, rule, changed)?;
     let left = in_next_row(alloc, rule, changed, fault)?;
@@ -168,7 +178,7 @@ pub fn left_claim(alloc: Global, rule: &Rule, changed: &[u8]) -> Result<Claim, A
 /// A row that is allowed, and the row after one step is not, where the listed bits are those that are asked for and that some line changes. Where none is
 /// listed the row after is allowed if the row is, so that no row is claimed: the table need not be looked at.
 pub fn left_of(alloc: Global, rule: &Rule, changed: &[u8]) -> Result<Claim, AllocError>
-    ensures { IfOk result (λ c. said c ≡ left_of rule.now.bits changed.now rule.now.allowed.items rule.now.limits.items rule.now.table.items) }
+    ensures { IfOk result (λ c. said c ≡ left_of rule.now.layout rule.now.bits changed.now rule.now.allowed.items rule.now.limits.items rule.now.table.items) }
 {
     let [_, ..] = changed else {
         let b = rule.bits as usize;
@@ -185,7 +195,7 @@ pub fn fails_claim(
     after: &[u8],
     formula: &Formula,
 ) -> Result<Claim, AllocError>
-    ensures { IfOk result (λ c. said c ≡ Faults.fails_claim rule.now.bits after.now rule.now.allowed.items rule.now.limits.items rule.now.table.items formula.now) }
+    ensures { IfOk result (λ c. said c ≡ Faults.fails_claim rule.now.layout rule.now.bits after.now rule.now.allowed.items rule.now.limits.items rule.now.table.items formula.now) }
 {
     let opposite = not(alloc, of_formula(alloc, rule, &[], formula)?)?;
     let fails = in_next_row(alloc, rule, after, opposite)?;

@@ -13,7 +13,7 @@ use formulas::formula::Formula;
 use formulas::free::free_names;
 use formulas::name::Name;
 use rows::line::{Line, Pattern};
-use rows::rule::{Asked, Literal, NewBit, Side};
+use rows::rule::{Asked, Layout, Literal, NewBit, Side};
 use std::alloc::{AllocError, Global};
 use thiserror::Error;
 
@@ -143,15 +143,16 @@ impl From<AllocError> for Unsound {
 }
 
 impl Rule {
-    /// The rule of these parts, if its patterns and its table name only bits that a module of so many bits has, and its limits only sets of the row; else why there is none.
+    /// The rule of these parts, whose rows lie so, if its patterns and its table name only bits that a module of so many bits has, and its limits only sets of the row; else why there is none.
     pub fn new(
         alloc: Global,
         bits: u8,
+        layout: Layout,
         allowed: Vec<Pattern>,
         limits: Vec<Formula>,
         table: Vec<Line>,
     ) -> Result<Rule, Unsound>
-        ensures { MatchResult result (λ r. (r.bits ≡ bits) × (r.allowed ≡ allowed) × (r.limits ≡ limits) × (r.table ≡ table)) (Refused bits allowed.items limits.items table.items) }
+        ensures { MatchResult result (λ r. (r.bits ≡ bits) × (r.layout ≡ layout) × (r.allowed ≡ allowed) × (r.limits ≡ limits) × (r.table ≡ table)) (Refused bits allowed.items limits.items table.items) }
     {
         if bits < 1 || bits > MOST_BITS {
             return Err(Unsound::Bits);
@@ -165,6 +166,7 @@ impl Rule {
         }
         Ok(Rule {
             bits,
+            layout,
             allowed,
             limits,
             table,

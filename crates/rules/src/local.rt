@@ -2,7 +2,7 @@
 ghost use Rattle.std.specs.Prelude.{◌≡◌, ◌≤◌, IfOk, false};
 ghost use Rattle.rows.specs.Local.{all, sees, non, both, before, behind, neg, names as is_named, fresh as fresh_number};
 ghost use Rattle.rows.specs.RuleLocal.{either, implies, also};
-ghost use Rattle.rules.specs.Local.{local_of};
+ghost use Rattle.rules.specs.Local.{local_of, with_kept};
 
 use std::alloc::{AllocError, Global};
 
@@ -114,15 +114,26 @@ pub fn names(f: &Local, y: usize) -> bool
     }
 }
 
-// One of these is neither p nor named.
+// Whether the tree names set y, or y is the number that is kept besides.
+fn is_taken(kept: Option<u8>, f: &Local, y: usize) -> bool
+    ensures named { result ≡ is_named (with_kept kept (local_of f.now)) y }
+    ensures beyond { 65536 ≤ y → result ≡ false }
+{
+    match kept {
+        None => names(f, y),
+        Some(r) => y == r as usize || names(f, y),
+    }
+}
+
+// One of these is neither p nor taken.
 const MOST_NUMBERS: usize = 65538;
 
-/// The lowest number that is not p and that the tree does not name. There always is one.
-pub fn fresh(p: usize, f: &Local) -> usize
-    ensures { result ≡ fresh_number p (local_of f.now) }
+/// The lowest number that is not p, is not kept and that the tree does not name. There always is one.
+pub fn fresh(p: usize, kept: Option<u8>, f: &Local) -> usize
+    ensures { result ≡ fresh_number p (with_kept kept (local_of f.now)) }
 {
     for y in 0..MOST_NUMBERS {
-        if y != p && !names(f, y) {
+        if y != p && !is_taken(kept, f, y) {
             return y;
         }
     }

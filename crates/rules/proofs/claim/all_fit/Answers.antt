@@ -10,4 +10,4 @@ returns c =
     let y = after_number r.bits c.args.after.now in
     let e : local_of c.in_ok-of_patterns.field-0.value ≡ allowed_local r.bits y r.allowed.items =
     c.in_ok-of_patterns.ensures ∙ ap (λ t. allowed_local r.bits y t) c.deref.ensures.value in
-    rw e at c.each.ensures
+    rw c.row_of.ensures at (rw e at c.each.ensures)

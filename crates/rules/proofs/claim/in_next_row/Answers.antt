@@ -9,6 +9,6 @@ returns c =
     let r = c.args.rule.now in
     let js = c.args.after.now in
     let d = said c.args.claim in
-    let e : said c.in_ok-step.step ≡ after_step r.bits (after_number r.bits js) r.table.items (groups js) d =
-    c.in_ok-step.ensures ∙ ap (λ t. after_step r.bits (after_number r.bits js) t (groups js) d) c.deref.ensures.value in
+    let e : said c.in_ok-step.step ≡ after_step r.layout r.bits (after_number r.bits js) r.table.items (groups js) d =
+    c.in_ok-step.ensures ∙ ap (λ t. after_step r.layout r.bits (after_number r.bits js) t (groups js) d) c.deref.ensures.value in
     rw (ap (λ (x : C). some_row r.bits js x) e) at c.some_row.ensures

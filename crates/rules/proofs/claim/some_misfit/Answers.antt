@@ -11,4 +11,4 @@ returns c =
     let y = after_number r.bits c.args.after.now in
     let e : local_of c.deref-2.result.now ≡ neg (allowed_local r.bits y r.allowed.items) =
     ap local_of c.deref-2.ensures ∙ (c.in_ok-other.ensures ∙ (ap neg c.in_ok-of_patterns.ensures ∙ ap (λ t. neg (allowed_local r.bits y t)) c.deref.ensures.value)) in
-    rw e at c.somewhere.ensures
+    rw c.row_of.ensures at (rw e at c.somewhere.ensures)

@@ -13,9 +13,10 @@ returns t c =
     let y = c.args.y.now in
     let b = y.bits in
     let R = c.args.table.now in
-    let g = after_groups b (number_of y) R c.args.js.now (said c.args.claim) c.is_empty.result c.min-n.result c.is_empty.ensures c.if-is_empty.false c.min-n.ensures in
-    let now : said c.in_ok-now.now ≡ each b (after_local b same_number (number_of y) (take c.min-n.result c.args.js.now) R) =
-    c.in_ok-now.ensures ∙ ap (λ f. each b f) c.in_ok-of_step.ensures in
+    let s = c.args.layout in
+    let g = after_groups s b (number_of y) R c.args.js.now (said c.args.claim) c.is_empty.result c.min-n.result c.is_empty.ensures c.if-is_empty.false c.min-n.ensures in
+    let now : said c.in_ok-now.now ≡ each s b (after_local b same_number (number_of y) (take c.min-n.result c.args.js.now) R) =
+    c.in_ok-now.ensures ∙ ap (λ f. each s b f) c.in_ok-of_step.ensures in
     let rest = said c.in_ok-others.others in
-    let first = each b (after_local b same_number (number_of y) (take c.min-n.result c.args.js.now) R) in
+    let first = each s b (after_local b same_number (number_of y) (take c.min-n.result c.args.js.now) R) in
     rw (ap (λ a. and1 a rest) now ∙ (ap (λ a. and1 first a) c.in_ok-others.ensures ∙ sym g)) at c.and.ensures
