@@ -1,12 +1,14 @@
--- The terms that stand for one step round a ring.
-use Rattle.std.proofs.Common.{◌≡◌, ℕ, zero, suc, ◌-◌, ◌<◌, min, Bool, true, false, cond, not, ◌&&◌, ◌||◌, ◌⊎◌, List, sym, refl, ap, ◌∙◌, subst, inl, inr, arith}
+-- The terms that stand for one step round a ring, and what so many steps from a place is.
+use Rattle.std.proofs.Common.{◌≡◌, ℕ, zero, suc, ◌-◌, Bool, true, false, cond, not, ◌&&◌, ◌||◌, ◌⊎◌, Option, List, sym, refl, ap, ◌∙◌, inl, inr, arith}
 use mathlib.Core.Bool.{false≢true}
 use native.Mathlib.Decide.{dec_lt}
 use Rattle.claims.specs.Claims.{has}
 use Rattle.claims.specs.Places.{one}
 use Rattle.formulas.specs.Sets.{mix, lowest, highest}
 use Rattle.formulas.proofs.SetsLaws.{mix_has, or_true, and_true, but_true, one_says, lowest_says, highest_says}
-use Rattle.resolve.specs.Spaces.{next, previous}
+use Rattle.trees.specs.Tree.{Expr}
+use Rattle.resolve.specs.Spaces.{around, next, previous, forward, back}
+use Rattle.resolve.specs.Says.{Context, place, place_of, value, number_of}
 
 -- the place behind i, if the ring has it
 abbrev Ahead : List Bool → ℕ → List Bool
@@ -83,3 +85,12 @@ previous_is u (suc i) = elim (dec_lt i (suc (highest u))) [
       omega (arith, last)
       )
 ]
+
+module _ (s : Context) (a b : Expr) (o : Option (List Bool)) (n p m : ℕ) where
+  pub further_means : value a.kind s ≡ place p → n ≡ number_of b.kind → around s.space ≡ o → m ≡ forward o n p →
+      place (forward (around s.space) (number_of b.kind) (place_of (value a.kind s))) ≡ place m
+  further_means at by on is = rw (at, ← by, on) (ap place (sym is))
+
+  pub back_means : value a.kind s ≡ place p → n ≡ number_of b.kind → around s.space ≡ o → m ≡ back o n p →
+      place (back (around s.space) (number_of b.kind) (place_of (value a.kind s))) ≡ place m
+  back_means at by on is = rw (at, ← by, on) (ap place (sym is))

@@ -9,7 +9,6 @@ use Rattle.trees.specs.declared.tree.Quantifier.{Quantifier}
 use Rattle.trees.specs.declared.tree.Quantifier.TheVariants as quantifier
 use Rattle.resolve.specs.Spaces.{bounds, around}
 use Rattle.resolve.specs.Faults.{shape_of}
-use Rattle.resolve.specs.declared.scope.Shape.{Shape}
 use Rattle.resolve.specs.declared.scope.Shape.TheVariants.{Row as AsRow, Ring as AsRing}
 use Rattle.resolve.specs.Says.{Context, value, place, set, bind, placed, define, given, SomePlace, EachPlace, SomeSet, EachSet, quantified}
 use Rattle.resolve.specs.declared.scope.Term.{Term}

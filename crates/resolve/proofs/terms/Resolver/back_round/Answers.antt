@@ -1,5 +1,5 @@
-use Rattle.std.proofs.Common.{◌≡◌, ◌∙◌, ap, add-one}
-use Rattle.resolve.specs.Spaces.{previous, steps}
+use Rattle.std.proofs.Common.{◌∙◌, ap, add-one}
+use Rattle.resolve.specs.Spaces.{previous}
 use Rattle.resolve.proofs.terms.Resolver.back_round.Goals as goal
 
 pub loop-i-preserved : goal.loop-i-preserved

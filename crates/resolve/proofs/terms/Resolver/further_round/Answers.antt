@@ -1,5 +1,5 @@
-use Rattle.std.proofs.Common.{◌≡◌, ◌∙◌, ap, add-one}
-use Rattle.resolve.specs.Spaces.{next, steps}
+use Rattle.std.proofs.Common.{◌∙◌, ap, add-one}
+use Rattle.resolve.specs.Spaces.{next}
 use Rattle.resolve.proofs.terms.Resolver.further_round.Goals as goal
 
 pub loop-i-preserved : goal.loop-i-preserved
