@@ -23,23 +23,23 @@ use Rattle.rule_check.specs.declared.verdict.Verdict.TheVariants.{Never, First, 
 
 -- a property's claim tells of the rows that have it
 module _ (r : Rule) where
-  all_tell : RuleClaims r.bits (changed r.bits r.allowed.items r.limits.items r.table.items) r.allowed.items r.limits.items r.table.items
+  all_tell : RuleClaims r.layout r.bits (changed r.bits r.allowed.items r.limits.items r.table.items) r.allowed.items r.limits.items r.table.items
   all_tell =
       let b = r.bits in
       let pss = r.allowed.items in
       let l = r.limits.items in
       let R = r.table.items in
-      rule_claims_tell b (changed b pss l R) pss l R r.one (is_true _ r.patterns) (is_true _ r.names) (is_true _ r.lines) (has_them b pss l R (is_true _ r.patterns) (is_true _ r.names))
+      rule_claims_tell r.layout b (changed b pss l R) pss l R r.one (is_true _ r.patterns) (is_true _ r.names) (is_true _ r.lines) (has_them b pss l R (is_true _ r.patterns) (is_true _ r.names))
 
   -- where no line changes a bit that is asked for, no row that is allowed is left: its claim would say that it is allowed and is not
-  both_said : (l : List Formula) (v : Sets) → Holds (allowed_part r.bits same_number r.allowed.items l) v → Holds (fault_part r.bits same_number r.allowed.items l) v → ⊥
+  both_said : (l : List Formula) (v : Sets) → Holds (allowed_part r.layout r.bits same_number r.allowed.items l) v → Holds (fault_part r.layout r.bits same_number r.allowed.items l) v → ⊥
   both_said [] v h f = h f
   both_said (a ∷ l) v h f = f h
 
-  none_left : RuleClaims r.bits [] r.allowed.items r.limits.items r.table.items → (w : Word) → Columns r.bits w → Has r Left w → ⊥
+  none_left : RuleClaims r.layout r.bits [] r.allowed.items r.limits.items r.table.items → (w : Word) → Columns r.bits w → Has r Left w → ⊥
   none_left t w hw p = let h = (t.left.of_row w hw).1 p in both_said r.limits.items (sets (marked r.bits w)) h.1.0 h.1.1
 
-  left_tells : (js : List ℕ) → RuleClaims r.bits js r.allowed.items r.limits.items r.table.items → Tells r.bits (left_of r.bits js r.allowed.items r.limits.items r.table.items) (Has r Left)
+  left_tells : (js : List ℕ) → RuleClaims r.layout r.bits js r.allowed.items r.limits.items r.table.items → Tells r.bits (left_of r.layout r.bits js r.allowed.items r.limits.items r.table.items) (Has r Left)
   left_tells [] t = tells_row r.bits r.one (not1 (lies_within r.bits r.bits)) (Has r Left) (λ v w f hw g. (λ h. absurd (h (within_itself r.bits v)), λ p. absurd (none_left t w hw p)))
   left_tells (j ∷ js) t = t.left
 

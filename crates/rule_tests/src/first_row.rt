@@ -1,7 +1,7 @@
 // Answers worked out by hand, of rules of one bit.
 use formulas::formula::{Formula, Group};
 use rows::line::{Line, Pattern};
-use rows::rule::{Asked, Literal, NewBit, Side};
+use rows::rule::{Asked, Layout, Literal, NewBit, Side};
 use rule_check::first_row::first_row;
 use rule_check::verdict::Verdict;
 use rules::known::Unsound;
@@ -31,7 +31,7 @@ fn shifting(alloc: Global, limits: Vec<Formula>) -> Result<Rule, Fail> {
     bits.push(NewBit::AsWas(Side::Left, 0))?;
     let mut table = Vec::new(alloc);
     table.push(Line::new(Vec::new(alloc), bits, true))?;
-    match Rule::new(alloc, 1, allowed, limits, table) {
+    match Rule::new(alloc, 1, Layout::Line, allowed, limits, table) {
         Ok(rule) => Ok(rule),
         Err(_) => Err(Fail::from("a rule")),
     }
@@ -72,7 +72,14 @@ fn no_such_bit(rt: HostRuntime) -> Result<(), Fail> {
     let alloc = rt.alloc();
     let mut allowed = Vec::new(alloc);
     allowed.push(Pattern::new(is_set(alloc, Side::Own, true)?))?;
-    let rule = Rule::new(alloc, 0, allowed, Vec::new(alloc), Vec::new(alloc));
+    let rule = Rule::new(
+        alloc,
+        0,
+        Layout::Line,
+        allowed,
+        Vec::new(alloc),
+        Vec::new(alloc),
+    );
     assert!(rt; matches!(rule, Err(Unsound::Bits)));
     Ok(())
 }
@@ -130,7 +137,14 @@ fn limit_of_no_set(rt: HostRuntime) -> Result<(), Fail> {
     let alloc = rt.alloc();
     let mut limits = Vec::new(alloc);
     limits.push(within(0, 2))?;
-    let rule = Rule::new(alloc, 1, Vec::new(alloc), limits, Vec::new(alloc));
+    let rule = Rule::new(
+        alloc,
+        1,
+        Layout::Line,
+        Vec::new(alloc),
+        limits,
+        Vec::new(alloc),
+    );
     assert!(rt; matches!(rule, Err(Unsound::UnknownName)));
     Ok(())
 }

@@ -41,11 +41,7 @@ fn all_fit(alloc: Global, rule: &Rule, after: &[u8]) -> Result<Claim, AllocError
         bits: rule.bits,
         after,
     };
-    each(
-        alloc,
-        row_of(rule),
-        of_patterns(alloc, &x, &rule.allowed)?,
-    )
+    each(alloc, row_of(rule), of_patterns(alloc, &x, &rule.allowed)?)
 }
 
 // Each module is as one of the patterns, and the limits hold.
@@ -64,11 +60,7 @@ fn all_wait(alloc: Global, rule: &Rule) -> Result<Claim, AllocError>
         bits: rule.bits,
         after: &[],
     };
-    each(
-        alloc,
-        row_of(rule),
-        of_waiting(alloc, &x, &rule.table)?,
-    )
+    each(alloc, row_of(rule), of_waiting(alloc, &x, &rule.table)?)
 }
 
 // Somewhere a module is as none of the patterns, where the listed bits are those of the row after.
