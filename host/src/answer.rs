@@ -48,6 +48,31 @@ pub enum RowAnswer {
     OutFull { holds: usize, fails: usize },
 }
 
+/// What is said of a ring claim.
+///
+/// A ring has exactly as many places as its word has columns; the empty ring has none. Turned, a ring is another word of which the
+/// same claims hold: shorter words come first, words of one length by the first column that differs.
+#[derive(Clone, Debug, PartialEq, Eq)]
+pub enum RingAnswer {
+    /// It holds of every ring, however long.
+    Always,
+    /// It holds of none.
+    Never,
+    /// It holds of some: the first ring of which it holds, and the first of which it does not.
+    Both { holds: Vec<u32>, fails: Vec<u32> },
+    /// The bytes are no ring claim.
+    NoRingClaim,
+    /// The claim about sets that is made of it takes more than 1,024 bytes.
+    TooLong,
+    /// The claim about sets that is made of it is about more than 12: the ring claim is about 12.
+    TooManySets,
+    /// At some part of the claims about sets that are made of it, more classes must be told apart than are allowed.
+    Many,
+    /// The two first rings have these lengths, and are longer together than was allowed. Only
+    /// [`Judge::judge_ring_within`](crate::Judge::judge_ring_within) says this.
+    OutFull { holds: usize, fails: usize },
+}
+
 /// In the words of [`Answer`].
 impl fmt::Display for RowAnswer {
     fn fmt(&self, f: &mut fmt::Formatter<'_>) -> fmt::Result {
@@ -60,6 +85,22 @@ impl fmt::Display for RowAnswer {
             RowAnswer::TooManySets => f.write_str("too many sets"),
             RowAnswer::Many => f.write_str("many"),
             RowAnswer::OutFull { holds, fails } => write!(f, "out full {holds} {fails}"),
+        }
+    }
+}
+
+/// In the words of [`Answer`].
+impl fmt::Display for RingAnswer {
+    fn fmt(&self, f: &mut fmt::Formatter<'_>) -> fmt::Result {
+        match self {
+            RingAnswer::Always => f.write_str("always"),
+            RingAnswer::Never => f.write_str("never"),
+            RingAnswer::Both { holds, fails } => write_both(f, holds, fails),
+            RingAnswer::NoRingClaim => f.write_str("no ring claim"),
+            RingAnswer::TooLong => f.write_str("too long"),
+            RingAnswer::TooManySets => f.write_str("too many sets"),
+            RingAnswer::Many => f.write_str("many"),
+            RingAnswer::OutFull { holds, fails } => write!(f, "out full {holds} {fails}"),
         }
     }
 }

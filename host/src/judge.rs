@@ -3,10 +3,11 @@
 use std::error::Error;
 use std::fmt;
 
-use crate::answer::{Answer, RowAnswer};
-use crate::call::{RowVerdict, Verdict, call, call_row};
+use crate::answer::{Answer, RingAnswer, RowAnswer};
+use crate::call::{RingVerdict, RowVerdict, Verdict, call, call_ring, call_row};
 use crate::claim::Claim;
-use crate::memory::{Buffer, floor, row_floor};
+use crate::memory::{Buffer, floor, ring_floor, row_floor};
+use crate::ring_claim::RingClaim;
 use crate::row_claim::RowClaim;
 
 /// The limit on work words of a new [`Judge`]: 2^30, which are 4 GiB. A large floor takes memory only as far as the
@@ -101,6 +102,28 @@ impl Judge {
             RowVerdict::Few => unreachable!("the call was lent what it asks for"),
             RowVerdict::TooLong => RowAnswer::TooLong,
             RowVerdict::TooManySets => RowAnswer::TooManySets,
+        })
+    }
+
+    /// Whether the ring claim holds of every ring, of none, or of which first, where at most `most` classes may be told apart at each
+    /// part of the claims about sets that are made of it.
+    pub fn judge_ring(&mut self, claim: &RingClaim, most: u32) -> Result<RingAnswer, Refused> {
+        self.judge_ring_within(claim, most, usize::MAX)
+    }
+
+    /// The same, with at most `out_words` columns for the two first rings together.
+    pub fn judge_ring_within(&mut self, claim: &RingClaim, most: u32, out_words: usize) -> Result<RingAnswer, Refused> {
+        let (out, work) = self.lend(ring_floor(claim.bytes(), most), most, out_words)?;
+        Ok(match call_ring(claim.bytes(), most, out, work) {
+            RingVerdict::Always => RingAnswer::Always,
+            RingVerdict::Never => RingAnswer::Never,
+            RingVerdict::Both(a, b) => RingAnswer::Both { holds: out[..a].to_vec(), fails: out[a..a + b].to_vec() },
+            RingVerdict::NoRingClaim => RingAnswer::NoRingClaim,
+            RingVerdict::Many => RingAnswer::Many,
+            RingVerdict::OutFull(holds, fails) => RingAnswer::OutFull { holds, fails },
+            RingVerdict::Few => unreachable!("the call was lent what it asks for"),
+            RingVerdict::TooLong => RingAnswer::TooLong,
+            RingVerdict::TooManySets => RingAnswer::TooManySets,
         })
     }
 

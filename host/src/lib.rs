@@ -44,6 +44,19 @@
 //! assert_eq!(answer, RowAnswer::Both { holds: vec![0], fails: vec![] });
 //! # Ok::<(), Refused>(())
 //! ```
+//!
+//! A [`RingClaim`] is about a row that goes round: behind its last place comes its first. [`Judge::judge_ring`] says whether it holds of
+//! every ring, of none, or of which first.
+//!
+//! ```
+//! use ceivuron::ring_part::{not, next, some, and, single};
+//! use ceivuron::{Judge, Refused, RingAnswer, RingClaim};
+//!
+//! // Every place has a next one.
+//! let claim = RingClaim::new(2, &not(some(0, and(single(0), not(some(1, next(0, 1)))))));
+//! assert_eq!(Judge::new().judge_ring(&claim, 100)?, RingAnswer::Always);
+//! # Ok::<(), Refused>(())
+//! ```
 
 mod answer;
 mod call;
@@ -53,14 +66,17 @@ pub mod line;
 mod memory;
 pub mod part;
 pub mod progress;
+mod ring_claim;
+pub mod ring_part;
 mod row_claim;
 pub mod row_part;
 pub mod second;
 pub mod start;
 
-pub use answer::{Answer, RowAnswer};
-pub use call::{RowVerdict, Verdict, call, call_row};
+pub use answer::{Answer, RingAnswer, RowAnswer};
+pub use call::{RingVerdict, RowVerdict, Verdict, call, call_ring, call_row};
 pub use claim::Claim;
 pub use judge::{Judge, Refused, WORK_LIMIT, judge};
-pub use memory::{floor, row_floor};
+pub use memory::{floor, ring_floor, row_floor};
+pub use ring_claim::RingClaim;
 pub use row_claim::RowClaim;

@@ -2,7 +2,7 @@
 
 use std::alloc::{Layout, alloc_zeroed};
 
-use crate::call::{floor_words, row_floor_words};
+use crate::call::{floor_words, ring_floor_words, row_floor_words};
 
 /// The work words that the call asks for: 8,192 + 64s + (n + 1)(16 · 2^w + 256 + n), for s bytes, n = `most` and w the most
 /// sets that any part of the claim mentions; w is 0 where the bytes are no claim. A part mentions the sets of its signs
@@ -19,6 +19,13 @@ pub fn floor(claim: &[u8], most: u32) -> u128 {
 /// asked for where the bytes are no row claim, or what is made of them would be too long or about too many sets.
 pub fn row_floor(claim: &[u8], most: u32) -> u128 {
     reckoned(|most| row_floor_words(claim, most), most)
+}
+
+/// The work words that the call on a ring claim asks for: the row floor of the row claim as which it is read, which takes more bytes
+/// and is about the same sets. No words are asked for where the bytes are no ring claim, or what is made of them would be too long
+/// or about too many sets.
+pub fn ring_floor(claim: &[u8], most: u32) -> u128 {
+    reckoned(|most| ring_floor_words(claim, most), most)
 }
 
 /// A number of words that is told up to 2^64 - 1, and is a polynomial in `most` whose second differences are all 2 where it is more.

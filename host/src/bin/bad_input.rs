@@ -1,15 +1,16 @@
 //! Gives the calls bytes of all sorts, and holds them to their promise about memory: `bad_input [INPUTS [SEED]]`, a million without a
-//! number, and a quarter as many for the call on row claims.
+//! number, and a quarter as many for the call on row claims and for that on ring claims.
 
 use std::process::ExitCode;
 use std::time::Instant;
 
 use ceivuron::part::Part;
+use ceivuron::ring_part::RingPart;
 use ceivuron::row_part::RowPart;
 use ceivuron::second::guarded::Guarded;
 use ceivuron::second::random::Random;
 use ceivuron::second::widths::widest;
-use ceivuron::{Claim, RowClaim, RowVerdict, Verdict};
+use ceivuron::{Claim, RingClaim, RingVerdict, RowClaim, RowVerdict, Verdict};
 
 fn main() -> ExitCode {
     let mut numbers = std::env::args().skip(1).map(|word| word.parse::<u64>().expect("a number"));
@@ -55,6 +56,26 @@ fn main() -> ExitCode {
     let [always, never, both, many, long, sets, none] = counts;
     print!("{inputs} inputs for rows: {always} always, {never} never, {both} both, {many} many, ");
     println!("{long} too long, {sets} too many sets, {none} no row claim");
+
+    let mut counts = [0u64; 7];
+    for _ in 0..inputs {
+        let bytes = input(&mut random, ring_claim);
+        let sets = RingPart::read(&bytes).map_or(0, |(sets, _)| u32::from(sets) + 1);
+        let most = allowed(&mut random, sets);
+        match guarded.check_ring(&bytes, most, 1 + random.below(100)) {
+            Ok(RingVerdict::Always) => counts[0] += 1,
+            Ok(RingVerdict::Never) => counts[1] += 1,
+            Ok(RingVerdict::Both(..)) => counts[2] += 1,
+            Ok(RingVerdict::Many) => counts[3] += 1,
+            Ok(RingVerdict::TooLong) => counts[4] += 1,
+            Ok(RingVerdict::TooManySets) => counts[5] += 1,
+            Ok(_) => counts[6] += 1,
+            Err(fault) => faults += report("FAULT of a ring claim", &bytes, most, &fault),
+        }
+    }
+    let [always, never, both, many, long, sets, none] = counts;
+    print!("{inputs} inputs for rings: {always} always, {never} never, {both} both, {many} many, ");
+    println!("{long} too long, {sets} too many sets, {none} no ring claim");
     println!("{} calls, {:.1} s, {faults} faults", guarded.calls, begin.elapsed().as_secs_f64());
     if faults == 0 { ExitCode::SUCCESS } else { ExitCode::FAILURE }
 }
@@ -115,6 +136,16 @@ fn row_claim(random: &mut Random) -> Vec<u8> {
     let part = random.counting_row_claim(sets, signs, depth);
     let sets = if random.one_in(10) { 12 - random.below(10) as u8 } else { sets };
     RowClaim::new(sets, &part).bytes().to_vec()
+}
+
+/// The same of a ring claim; seldom with many signs of next, that it is read as too long a row claim, or nearly so.
+fn ring_claim(random: &mut Random) -> Vec<u8> {
+    let sets = 1 + random.below(3) as u8;
+    let (signs, depth) =
+        if random.one_in(50) { (60 + random.below(60), 1) } else { (1 + random.below(6), random.below(3)) };
+    let part = random.ring_claim(sets, signs, depth);
+    let sets = if random.one_in(10) { 12 - random.below(10) as u8 } else { sets };
+    RingClaim::new(sets, &part).bytes().to_vec()
 }
 
 /// A claim that counts, alone or as a part: its number, its rest and its set at the edge of what may be, or its end cut off.

@@ -1,5 +1,5 @@
-//! Compares the proved calls with the second program: `compare [CLAIMS [SEED [ROWCLAIMS]]]`, 600 claims and 500 row claims without a
-//! number, and the worked claims.
+//! Compares the proved calls with the second program: `compare [CLAIMS [SEED [ROWCLAIMS [RINGCLAIMS]]]]`, 600 claims, 500 row claims
+//! and 500 ring claims without a number, and the worked claims.
 
 use std::process::ExitCode;
 use std::time::Instant;
@@ -9,10 +9,12 @@ use ceivuron::part::Part;
 use ceivuron::second::compared::{Comparison, Effort};
 use ceivuron::second::random::Random;
 use ceivuron::second::reach::depth;
+use ceivuron::second::ring_compared;
+use ceivuron::second::ring_tally::RingTally;
 use ceivuron::second::row_compared;
 use ceivuron::second::row_tally::RowTally;
 use ceivuron::second::tally::Tally;
-use ceivuron::{Answer, Claim, Judge, RowClaim};
+use ceivuron::{Answer, Claim, Judge, RingClaim, RowClaim};
 
 /// Claims that were worked out by hand, and claims that older tools had wrong, with their answers: `n hexbytes => answer`.
 const WORKED: &str = include_str!("../../tests/worked.txt");
@@ -22,6 +24,7 @@ fn main() -> ExitCode {
     let count = numbers.next().unwrap_or(600) as usize;
     let seed = numbers.next().unwrap_or(1);
     let row_count = numbers.next().unwrap_or(500) as usize;
+    let ring_count = numbers.next().unwrap_or(500) as usize;
     let begin = Instant::now();
     let mut comparison = Comparison::new(Effort { columns: 6, budget: 1_000_000 });
     let mut differences = 0;
@@ -62,6 +65,16 @@ fn main() -> ExitCode {
         differences += report(RowClaim::new(sets, &claim).bytes(), result);
     }
     println!("row claims made at random, from seed {seed}:");
+    println!("{tally}");
+
+    let mut tally = RingTally::default();
+    let mut random = Random::new(seed);
+    while tally.claims < ring_count {
+        let (sets, claim) = ring_compared::draw(&mut random, &tally, ring_count);
+        let result = ring_compared::compare(&mut comparison.judge, &mut random, sets, &claim, &mut tally);
+        differences += report(RingClaim::new(sets, &claim).bytes(), result);
+    }
+    println!("ring claims made at random, from seed {seed}:");
     println!("{tally}");
     println!("{:.1} s, {differences} differences", begin.elapsed().as_secs_f64());
     if differences == 0 { ExitCode::SUCCESS } else { ExitCode::FAILURE }

@@ -2,10 +2,11 @@
 
 use std::fmt::Debug;
 
-use super::{row_widths, widths};
-use crate::call::{RowVerdict, Verdict, call, call_row};
-use crate::memory::{floor, row_floor};
+use super::{ring_widths, row_widths, widths};
+use crate::call::{RingVerdict, RowVerdict, Verdict, call, call_ring, call_row};
+use crate::memory::{floor, ring_floor, row_floor};
 use crate::part::Part;
+use crate::ring_part::RingPart;
 use crate::row_part::RowPart;
 
 /// How many guard words stand before and behind a lent slice, and what they hold.
@@ -102,6 +103,30 @@ impl Lending for OnRows {
     }
 }
 
+/// The call on ring claims.
+struct OnRings;
+
+impl Lending for OnRings {
+    type Told = RingVerdict;
+    const FEW: RingVerdict = RingVerdict::Few;
+
+    fn call(claim: &[u8], most: u32, out: &mut [u32], work: &mut [u32]) -> RingVerdict {
+        call_ring(claim, most, out, work)
+    }
+
+    fn floor(claim: &[u8], most: u32) -> u128 {
+        ring_floor(claim, most)
+    }
+
+    fn both(told: RingVerdict) -> Option<(usize, usize)> {
+        if let RingVerdict::Both(a, b) = told { Some((a, b)) } else { None }
+    }
+
+    fn out_full(a: usize, b: usize) -> RingVerdict {
+        RingVerdict::OutFull(a, b)
+    }
+}
+
 /// Holds the calls to their promise about memory, on any bytes.
 #[derive(Default)]
 pub struct Guarded {
@@ -140,6 +165,28 @@ impl Guarded {
         match expected {
             Some(expected) if expected != verdict => Err(format!("{verdict:?}, expected {expected:?}")),
             None if refusals.contains(&verdict) => Err(format!("{verdict:?} of a row claim")),
+            _ => Ok(verdict),
+        }
+    }
+
+    /// The same of the call on a ring claim, which is read as a row claim.
+    pub fn check_ring(&mut self, claim: &[u8], most: u32, more: usize) -> Result<RingVerdict, String> {
+        ring_widths::compare(claim, most)?;
+        ring_widths::compare(claim, u32::MAX)?;
+        let verdict = self.promised::<OnRings>(claim, most, more)?;
+        let expected = match RingPart::read(claim) {
+            None => Some(RingVerdict::NoRingClaim),
+            Some((12, _)) => Some(RingVerdict::TooManySets),
+            Some((sets, part)) if ring_widths::bytes_read(&part, sets) > row_widths::LIMIT => {
+                Some(RingVerdict::TooLong)
+            }
+            Some(_) if most == 0 => Some(RingVerdict::Many),
+            Some(_) => None,
+        };
+        let refusals = [RingVerdict::NoRingClaim, RingVerdict::TooManySets, RingVerdict::TooLong];
+        match expected {
+            Some(expected) if expected != verdict => Err(format!("{verdict:?}, expected {expected:?}")),
+            None if refusals.contains(&verdict) => Err(format!("{verdict:?} of a ring claim")),
             _ => Ok(verdict),
         }
     }

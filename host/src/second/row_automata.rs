@@ -22,7 +22,7 @@ const MOST: usize = 20_000;
 
 /// What is known of a set that shall have one place: none so far, the place just read, a place before it.
 #[derive(Clone, Copy, PartialEq, Eq, Hash)]
-enum Seen {
+pub(super) enum Seen {
     Nowhere,
     Here,
     Earlier,
@@ -30,7 +30,7 @@ enum Seen {
 
 impl Seen {
     /// `None` where the set has two places.
-    fn step(self, has: bool) -> Option<Seen> {
+    pub(super) fn step(self, has: bool) -> Option<Seen> {
         match (self, has) {
             (Seen::Nowhere, false) => Some(Seen::Nowhere),
             (Seen::Nowhere, true) => Some(Seen::Here),
@@ -41,7 +41,7 @@ impl Seen {
 }
 
 /// Whether a column has set x.
-fn has(column: usize, x: u8) -> bool {
+pub(super) fn has(column: usize, x: u8) -> bool {
     column >> x & 1 == 1
 }
 
@@ -51,32 +51,43 @@ impl Automaton {
         let columns = 1 << sets;
         match claim {
             RowPart::Last(x) => Automaton::of_last(*x, columns),
-            RowPart::Not(c) => {
-                let Automaton { steps, accepts } = Automaton::of(c, sets)?;
-                Some(Automaton { steps, accepts: accepts.into_iter().map(|accepts| !accepts).collect() })
-            }
-            RowPart::And(c, d) => {
-                let (c, d) = (Automaton::of(c, sets)?, Automaton::of(d, sets)?);
-                let step = |(p, q): &(usize, usize), column| (c.steps[*p][column], d.steps[*q][column]);
-                Automaton::explore((0, 0), columns, step, |(p, q)| c.accepts[*p] && d.accepts[*q])
-            }
-            RowPart::Some(x, c) => {
-                let c = Automaton::of(c, sets)?;
-                let step = |states: &BTreeSet<usize>, column: usize| {
-                    let choices = [column & !(1 << x), column | 1 << x];
-                    states.iter().flat_map(|state| choices.map(|choice| c.steps[*state][choice])).collect()
-                };
-                Automaton::explore(BTreeSet::from([0]), columns, step, |states| {
-                    states.iter().any(|state| c.accepts[*state])
-                })
-            }
+            RowPart::Not(c) => Some(Automaton::of(c, sets)?.opposite()),
+            RowPart::And(c, d) => Automaton::of(c, sets)?.both(&Automaton::of(d, sets)?),
+            RowPart::Some(x, c) => Automaton::of(c, sets)?.some(*x),
             _ => Automaton::of_sign(claim, columns),
         }
         .map(Automaton::smallest)
     }
 
+    /// Accepts what this one does not.
+    pub(super) fn opposite(self) -> Automaton {
+        let accepts = self.accepts.into_iter().map(|accepts| !accepts).collect();
+        Automaton { steps: self.steps, accepts }
+    }
+
+    /// Accepts what this one and another do, which reads the same columns.
+    pub(super) fn both(&self, other: &Automaton) -> Option<Automaton> {
+        let step = |(p, q): &(usize, usize), column| (self.steps[*p][column], other.steps[*q][column]);
+        Automaton::explore((0, 0), self.columns(), step, |(p, q)| self.accepts[*p] && other.accepts[*q])
+    }
+
+    /// Accepts a row where this one does with some choice of the places of x.
+    pub(super) fn some(&self, x: u8) -> Option<Automaton> {
+        let step = |states: &BTreeSet<usize>, column: usize| {
+            let choices = [column & !(1 << x), column | 1 << x];
+            states.iter().flat_map(|state| choices.map(|choice| self.steps[*state][choice])).collect()
+        };
+        Automaton::explore(BTreeSet::from([0]), self.columns(), step, |states| {
+            states.iter().any(|state| self.accepts[*state])
+        })
+    }
+
+    fn columns(&self) -> usize {
+        self.steps[0].len()
+    }
+
     /// Of the other signs without parts a state is what was seen of their sets, `None` or `false` once it can hold no more.
-    fn of_sign(sign: &RowPart, columns: usize) -> Option<Automaton> {
+    pub(super) fn of_sign(sign: &RowPart, columns: usize) -> Option<Automaton> {
         match *sign {
             RowPart::Within(x, y) => {
                 let step = |within: &bool, column| *within && (has(column, y) || !has(column, x));
@@ -131,7 +142,7 @@ impl Automaton {
     }
 
     /// All things that rows lead to from `start`, as states.
-    fn explore<T: Clone + Eq + Hash>(
+    pub(super) fn explore<T: Clone + Eq + Hash>(
         start: T,
         columns: usize,
         step: impl Fn(&T, usize) -> T,
@@ -159,7 +170,7 @@ impl Automaton {
 
     /// The same with states that no row tells apart made one: parts of the states are cut, by acceptance and then by where the
     /// columns lead, until nothing more is cut.
-    fn smallest(self) -> Automaton {
+    pub(super) fn smallest(self) -> Automaton {
         let mut parts: Vec<usize> = self.accepts.iter().map(|accepts| usize::from(*accepts)).collect();
         let mut count = 0;
         loop {

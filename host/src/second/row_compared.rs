@@ -12,11 +12,11 @@ use crate::row_claim::RowClaim;
 use crate::row_part::RowPart;
 
 /// The most classes that are allowed here.
-const MOST: u32 = 1024;
+pub(super) const MOST: u32 = 1024;
 
 /// Rows of up to so many places are looked at by definition, in no more than so many steps.
-const PLACES: u32 = 6;
-const STEPS: u64 = 1 << 20;
+pub(super) const PLACES: u32 = 6;
+pub(super) const STEPS: u64 = 1 << 20;
 
 /// A row claim about one to four sets, of a sort of which there are not enough yet: at most three in ten hold always, three in ten
 /// never; most without `some` are passed over.
@@ -83,7 +83,7 @@ pub fn compare(
 }
 
 /// The columns of a row, with each set's places under its new number.
-fn widened(row: &[u32], numbers: &[u8]) -> Vec<u32> {
+pub(super) fn widened(row: &[u32], numbers: &[u8]) -> Vec<u32> {
     let wide =
         |column: &u32| numbers.iter().enumerate().fold(0, |wide, (x, number)| wide | (column >> x & 1) << number);
     row.iter().map(wide).collect()

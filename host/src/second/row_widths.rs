@@ -13,10 +13,15 @@ pub const LIMIT: usize = 1024;
 
 /// The bytes of the second claim, with the number of sets in front.
 pub fn bytes_read(claim: &RowPart, sets: u8) -> usize {
+    bytes_around(sets) + in_row(claim)
+}
+
+/// The bytes of the second claim without those of the row claim.
+pub(super) fn bytes_around(sets: u8) -> usize {
     // each set is within the row: and, within; no place of the row has before it one that is none
     let is_row = 4 * usize::from(sets) + 17;
     // the number of sets, and, not
-    3 + is_row + in_row(claim)
+    3 + is_row
 }
 
 fn in_row(claim: &RowPart) -> usize {
@@ -33,9 +38,15 @@ fn in_row(claim: &RowPart) -> usize {
 
 /// The floor of these bytes.
 pub fn floor(bytes: &[u8], most: u32) -> u128 {
-    let Some((sets @ ..12, claim)) = RowPart::read(bytes) else { return 0 };
-    let read = bytes_read(&claim, sets);
-    if read > LIMIT {
+    match RowPart::read(bytes) {
+        Some((sets, claim)) => floor_of(bytes_read(&claim, sets), sets, most),
+        None => 0,
+    }
+}
+
+/// The floor where the second claim has so many bytes, and the row claim is about so many sets.
+pub(super) fn floor_of(read: usize, sets: u8, most: u32) -> u128 {
+    if sets == 12 || read > LIMIT {
         return 0;
     }
     let n = u128::from(most);
