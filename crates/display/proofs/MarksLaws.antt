@@ -1,7 +1,8 @@
 -- Lemmas on rows of marks.
-use Rattle.std.proofs.Common.{◌≡◌, ℕ, zero, suc, ◌+◌, ◌*◌, ◌-◌, ◌≤◌, ◌<◌, List, [], ◌∷◌, ◌++◌, length, map, max, min, fold, take, drop, get_or, Bool, nat_le, nat_lt, arith, ap, ◌∙◌, sym, append_assoc, append-nil, add-one, length-drop}
+use Rattle.std.proofs.Common.{◌≡◌, ℕ, zero, suc, ◌+◌, ◌*◌, ◌-◌, ◌≤◌, ◌<◌, List, [], ◌∷◌, ◌++◌, length, map, max, min, fold, take, drop, get_or, nat_le, nat_lt, arith, ap, ◌∙◌, sym, append_assoc, append-nil, add-one, length-drop}
 use Rattle.std.proofs.lemmas.List.{take_min, take_more, get_or-map, length-take-le, length-map}
 use Rattle.words.specs.Words.{Word}
+use Rattle.display.specs.declared.ends.Ends.{Ends}
 use Rattle.display.specs.Marks.{longest, rows_of, row_of, blocks_of, block_of}
 
 -- the longest of some names and a length is no shorter than the length
@@ -35,7 +36,7 @@ cut_line word from last within bound =
     rw size (take_min 60 (drop from word))
 
 -- the lines with one more behind
-pub blocks_of-more : (ends : Bool) (names : List (List ℕ)) (word : Word) (k last : ℕ) → 60 * k ≤ length word → last ≡ min (length word) (60 * k + 60)
+pub blocks_of-more : (ends : Ends) (names : List (List ℕ)) (word : Word) (k last : ℕ) → 60 * k ≤ length word → last ≡ min (length word) (60 * k + 60)
     → blocks_of ends names word k ++ block_of ends names (take (last - 60 * k) (drop (60 * k) word)) (60 * k) (nat_lt 10 (length word)) (nat_le (length word) (60 * k + 60))
     ≡ blocks_of ends names word (k + 1)
 blocks_of-more ends names word k last within bound =

@@ -5,6 +5,7 @@
 pub mod beside;
 mod blanks;
 pub mod columns;
+pub mod ends;
 pub mod hex;
 pub mod marks;
 mod row;

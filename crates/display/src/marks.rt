@@ -3,6 +3,7 @@ ghost use Rattle.std.specs.Prelude.{◌≡◌, ◌+◌, ◌^◌, ◌<◌, ◌≤
 ghost use Rattle.display.specs.Marks.{block_of, left_end, longest, right_end, shown};
 
 use crate::blanks::Blanks;
+use crate::ends::Ends;
 use crate::row::Row;
 use crate::ruler::{Tens, Units};
 use std::fmt;
@@ -12,13 +13,13 @@ const WIDTH: usize = 60;
 
 /// A word that prints as rows of marks: for each name the marks of its set, whose number is the name's index (`#` for a place that the set has, else `.`),
 /// with a ruler above them that numbers the places from 0 on. At most 60 places stand on a line. A word with no columns prints nothing.
-/// With `ends` the word is a row whose ends are shown: on each row of marks `|` stands just before the first place's and `|` just behind the last place's,
-/// and a blank before the marks of each line below the first.
+/// Where its ends are shown, their sign stands on each row of marks just before the first place's and just behind the last place's, and a blank before the
+/// marks of each line below the first.
 #[derive(Clone, Copy, Debug)]
 pub struct Marks<'n, 't, 'w> {
     pub names: &'n [&'t str],
     pub word: &'w [u32],
-    pub ends: bool,
+    pub ends: Ends,
 }
 
 // The places of a word that stand on a line, the first of them, and whether the last of all is there. A word of more than ten places has its tens numbered.
@@ -28,7 +29,7 @@ struct Block<'n, 't, 'w> {
     columns: &'w [u32],
     from: usize,
     tens: bool,
-    ends: bool,
+    ends: Ends,
     last: bool,
     ghost some: { 0 < length columns.now },
     ghost in_range: { from + length columns.now < 2 ^ 64 },
@@ -43,21 +44,21 @@ fn longest(names: &[&str]) -> usize
 }
 
 // What stands before the marks of a line, the first place of which is `from`.
-fn left_end(ends: bool, from: usize) -> &'static str
+fn left_end(ends: Ends, from: usize) -> &'static str
     ensures { result.now ≡ left_end ends from }
 {
     match (ends, from) {
-        (false, _) => "",
-        (true, 0) => "|",
-        (true, _) => " ",
+        (_, 0) => ends.sign(),
+        (Ends::Hidden, _) => "",
+        (Ends::Walls | Ends::Seam, _) => " ",
     }
 }
 
 // What stands behind the marks of a line.
-fn right_end(ends: bool, last: bool) -> &'static str
+fn right_end(ends: Ends, last: bool) -> &'static str
     ensures { result.now ≡ right_end ends last }
 {
-    if ends && last { "|" } else { "" }
+    if last { ends.sign() } else { "" }
 }
 
 impl fmt::Display for Block<'_, '_, '_> {

@@ -3,13 +3,14 @@ ghost use Rattle.std.specs.Prelude.{◌+◌, ◌*◌, ◌^◌, ◌<◌, Some};
 ghost use Rattle.display.specs.Ruler.{margin, tens_line, units_line};
 
 use crate::blanks::Blanks;
+use crate::ends::Ends;
 use std::fmt;
 
-// What stands before a ruler, as wide as names of up to `width` signs take, with one sign more where the row's ends are shown.
+// What stands before a ruler, as wide as names of up to `width` signs take, with one sign more where the word's ends are shown.
 #[derive(Clone, Copy)]
 struct Margin {
     width: usize,
-    ends: bool,
+    ends: Ends,
 }
 
 impl fmt::Display for Margin {
@@ -17,17 +18,17 @@ impl fmt::Display for Margin {
 
     fn fmt<W: fmt::Write>(&self, f: &mut fmt::Formatter<W>) -> fmt::Result {
         let blanks = Blanks(self.width);
-        let more = Blanks(if self.ends { 2 } else { 1 });
+        let more = Blanks(self.ends.width() + 1);
         write!(f, "    {blanks}{more}")
     }
 }
 
 /// The numbers of every tenth of at least one place, from place `from` on, each above its place, behind a margin as wide as names of up to `width` signs take, and
-/// one sign wider where the row's ends are shown. Before the last number there are `before`, each with blanks up to ten signs.
+/// one sign wider where the word's ends are shown. Before the last number there are `before`, each with blanks up to ten signs.
 #[derive(Clone, Copy)]
 pub struct Tens {
     pub width: usize,
-    pub ends: bool,
+    pub ends: Ends,
     pub from: usize,
     pub before: usize,
     ghost in_range: { from + 10 * before < 2 ^ 64 },
@@ -55,7 +56,7 @@ impl fmt::Display for Tens {
 #[derive(Clone, Copy)]
 pub struct Units {
     pub width: usize,
-    pub ends: bool,
+    pub ends: Ends,
     pub count: usize,
 }
 

@@ -1,6 +1,7 @@
 // What is printed, beside texts that were written by hand.
 use crate::beside::Beside;
 use crate::columns::Columns;
+use crate::ends::Ends;
 use crate::hex::Hex;
 use crate::marks::Marks;
 use std::test::Fail;
@@ -29,14 +30,14 @@ fn rows_stand_under_a_ruler(rt: HostRuntime) -> Result<(), Fail> {
     let short = Marks {
         names: &["left", "b"],
         word: &[1, 2, 3],
-        ends: false,
+        ends: Ends::Hidden,
     };
     let text = format!(in rt.alloc(); "{short}")?;
     assert_eq!(rt; text.as_str(), "         012\n    left #.#\n    b    .##\n");
     let long = Marks {
         names: &["x"],
         word: &[1, 0, 0, 0, 0, 0, 0, 0, 0, 0, 1, 0],
-        ends: false,
+        ends: Ends::Hidden,
     };
     let text = format!(in rt.alloc(); "{long}")?;
     assert_eq!(rt;
@@ -46,7 +47,7 @@ fn rows_stand_under_a_ruler(rt: HostRuntime) -> Result<(), Fail> {
     let none = Marks {
         names: &["x"],
         word: &[],
-        ends: false,
+        ends: Ends::Hidden,
     };
     let text = format!(in rt.alloc(); "{none}")?;
     assert_eq!(rt; text.as_str(), "");
@@ -58,24 +59,47 @@ fn ends_stand_beside_the_marks(rt: HostRuntime) -> Result<(), Fail> {
     let short = Marks {
         names: &["a", "bb"],
         word: &[1, 2, 0],
-        ends: true,
+        ends: Ends::Walls,
     };
     let text = format!(in rt.alloc(); "{short}")?;
     assert_eq!(rt; text.as_str(), "        012\n    a  |#..|\n    bb |.#.|\n");
     let one = Marks {
         names: &["x"],
         word: &[1],
-        ends: true,
+        ends: Ends::Walls,
     };
     let text = format!(in rt.alloc(); "{one}")?;
     assert_eq!(rt; text.as_str(), "       0\n    x |#|\n");
     let none = Marks {
         names: &["x"],
         word: &[],
-        ends: true,
+        ends: Ends::Walls,
     };
     let text = format!(in rt.alloc(); "{none}")?;
     assert_eq!(rt; text.as_str(), "");
+    Ok(())
+}
+
+#[test]
+fn a_seam_stands_where_a_ring_is_cut(rt: HostRuntime) -> Result<(), Fail> {
+    let short = Marks {
+        names: &["a", "bb"],
+        word: &[1, 2, 0],
+        ends: Ends::Seam,
+    };
+    let text = format!(in rt.alloc(); "{short}")?;
+    assert_eq!(rt; text.as_str(), "        012\n    a  :#..:\n    bb :.#.:\n");
+    let mut word = [0; 61];
+    word[0] = 1;
+    word[60] = 1;
+    let long = Marks {
+        names: &["x"],
+        word: &word,
+        ends: Ends::Seam,
+    };
+    let text = format!(in rt.alloc(); "{long}")?;
+    let wanted = format!(in rt.alloc(); "{RULER}    x :{MARKS}\n       60\n       0\n    x  #:\n")?;
+    assert_eq!(rt; text.as_str(), wanted.as_str());
     Ok(())
 }
 
@@ -97,7 +121,7 @@ fn ends_of_a_long_row_stand_on_its_first_and_last_line(rt: HostRuntime) -> Resul
     let sixty = Marks {
         names: &["x"],
         word: &word[..60],
-        ends: true,
+        ends: Ends::Walls,
     };
     let text = format!(in rt.alloc(); "{sixty}")?;
     let wanted = format!(in rt.alloc(); "{RULER}    x |{MARKS}|\n")?;
@@ -105,7 +129,7 @@ fn ends_of_a_long_row_stand_on_its_first_and_last_line(rt: HostRuntime) -> Resul
     let more = Marks {
         names: &["x"],
         word: &word[..61],
-        ends: true,
+        ends: Ends::Walls,
     };
     let text = format!(in rt.alloc(); "{more}")?;
     let wanted = format!(in rt.alloc(); "{RULER}    x |{MARKS}\n       60\n       0\n    x  #|\n")?;
@@ -113,7 +137,7 @@ fn ends_of_a_long_row_stand_on_its_first_and_last_line(rt: HostRuntime) -> Resul
     let three_lines = Marks {
         names: &["x"],
         word: &word,
-        ends: true,
+        ends: Ends::Walls,
     };
     let text = format!(in rt.alloc(); "{three_lines}")?;
     let wanted = format!(in rt.alloc();

@@ -5,8 +5,8 @@ ghost use Rattle.syntax.specs.Plain.{names as all_names, written, list, open_, c
 ghost use Rattle.syntax.specs.Views.{names_of, view, view_all};
 ghost use Rattle.tokens.specs.declared.kind.Kind.TheVariants as kind;
 ghost use Rattle.tokens.specs.Words.{word};
-ghost use Rattle.syntax.specs.Items.{predicate as defined, view_parameters, view_item, view_items, sort_word, parameters as all_parameters, written_item, written_items};
-ghost use Rattle.syntax.specs.Rows.{is_rows, rows_words};
+ghost use Rattle.syntax.specs.Items.{predicate as defined, view_parameters, view_item, view_items, sort_word, parameters as all_parameters, view_row, written_item, written_items};
+ghost use Rattle.syntax.specs.Rows.{is_rows, rows_words, rings_words};
 ghost use Rattle.syntax.specs.Printed.{enclosed, within_parens, text, texts, text_item};
 ghost use Rattle.printing.specs.Writing.{Writes, is_all};
 
@@ -15,7 +15,9 @@ use crate::writer::Writer;
 use std::alloc::{AllocError, Global};
 use syntax::operators::{CLOSED, EXTREME, NOT};
 use tokens::kind::Kind;
-use trees::tree::{Expr, ExprKind, Item, Name, Parameter, Predicate, Quantifier, Sort, Unary};
+use trees::tree::{
+    Ends, Expr, ExprKind, Item, Name, Parameter, Predicate, Quantifier, Row, Sort, Unary,
+};
 
 /// How many parentheses: as few as there have to be, or around every part that has operands.
 #[derive(Clone, Copy, Debug, PartialEq, Eq)]
@@ -207,7 +209,25 @@ fn put_row(writer: &mut Writer) -> Result<(), AllocError>
     writer.word(Kind::Semicolon, ";")
 }
 
-// What is claimed: a formula that is the name `rows` alone stands in parentheses, since `rows;` is a row.
+// What says that the text is about a ring.
+fn put_ring(writer: &mut Writer) -> Result<(), AllocError>
+    ensures { OnOk result (Writes writer.old writer.new (λ rest. rings_words ++ rest)) }
+{
+    writer.word(Kind::Name, "rings")?;
+    writer.word(Kind::Semicolon, ";")
+}
+
+// What says how places that follow one another end.
+fn put_ends(writer: &mut Writer, row: &Row) -> Result<(), AllocError>
+    ensures { OnOk result (Writes writer.old writer.new (λ rest. written_item (view_row row.now) rest)) }
+{
+    match &row.ends {
+        Ends::Last(_) => put_row(writer),
+        Ends::Round => put_ring(writer),
+    }
+}
+
+// What is claimed: a formula that is the name `rows` or `rings` alone stands in parentheses, since `rows;` is a row and `rings;` a ring.
 fn put_claimed(writer: &mut Writer, style: Style, formula: &Expr) -> Result<(), AllocError>
     ensures { OnOk result (Writes writer.old writer.new (λ rest. written (enclosed (is_rows (view formula.now.kind)) (text (is_all style) (view formula.now.kind))) (semicolon ∷ rest))) }
 {
@@ -236,7 +256,7 @@ fn put_item(writer: &mut Writer, style: Style, item: &Item) -> Result<(), AllocE
 {
     match item {
         Item::Free(sort, names) => put_free(writer, *sort, names),
-        Item::Row(_) => put_row(writer),
+        Item::Row(row) => put_ends(writer, row),
         Item::Predicate(predicate) => put_predicate(writer, style, predicate),
         Item::Assert(formula) => {
             writer.word(Kind::Assert, "assert")?;

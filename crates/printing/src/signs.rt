@@ -60,12 +60,15 @@ pub fn sort_word(sort: Sort) -> (Kind, &'static str)
     }
 }
 
-/// Whether an expression is the name `rows` alone.
+/// Whether an expression is the name `rows` or `rings` alone.
 pub fn is_rows(expr: &Expr) -> bool
     ensures { result ≡ is_rows (view expr.now.kind) }
 {
     match &expr.kind {
-        ExprKind::Named(name) => name.text.as_bytes() == b"rows".as_slice(),
+        ExprKind::Named(name) => {
+            let word = name.text.as_bytes();
+            word == b"rows".as_slice() || word == b"rings".as_slice()
+        }
         _ => false,
     }
 }

@@ -6,6 +6,7 @@ use Rattle.trees.specs.declared.tree.Name.{Name}
 use Rattle.trees.specs.Tree.{Expr}
 use Rattle.trees.specs.declared.tree.Item.{Item}
 use Rattle.trees.specs.declared.tree.Item.TheVariants.{Free as Declares, Row, Predicate as defined, Assert, Formula}
+use Rattle.resolve.specs.Spaces.{bounds}
 use Rattle.resolve.specs.Says.{Context, nothing, holds, define, declare, in_row, count, text_from}
 use Rattle.resolve.specs.declared.scope.Free.{Free}
 use Rattle.resolve.specs.declared.scope.Kind.{Kind}
@@ -83,7 +84,7 @@ renders_where : (x : Stated) (a : Expr) (s t : Env → Context) → ((e : Env) �
 renders_where x a s t is r = record {
   expr = r.expr;
   means = λ e. subst (λ c. Meaning x.formula.value e ↔ holds a.kind c) (is e) (r.means e);
-  row = λ e. sym (ap (λ c. is_some c.row) (is e)) ∙ r.row e;
+  row = λ e. sym (ap (λ c. is_some (bounds c.space)) (is e)) ∙ r.row e;
 }
 
 written_where : (items : List Item) (n : ℕ) (s t : Env → Context) (l m : List Stated) → ((e : Env) → s e ≡ t e) → Written items n s l m → Written items n t l m

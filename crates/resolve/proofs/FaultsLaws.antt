@@ -15,9 +15,10 @@ use Rattle.trees.specs.declared.tree.ExprKind.{Listed, Named, Unary, Binary, Bou
 use Rattle.resolve.specs.declared.fault.Class.{Class}
 use Rattle.resolve.specs.declared.fault.Class.TheVariants.{Formula, Place, Set}
 use Rattle.resolve.specs.declared.fault.Fault.{Fault}
-use Rattle.resolve.specs.declared.fault.Fault.TheVariants.{Class as OtherClass, Number as NoNumber, Name as NoName, Predicate as NoPredicate, Arguments as OtherCount}
+use Rattle.resolve.specs.declared.fault.Fault.TheVariants.{Class as OtherClass, Number as NoNumber, Name as NoName, Predicate as NoPredicate, Arguments as OtherCount, Round}
 use Rattle.resolve.specs.declared.scope.Term.{Term}
-use Rattle.resolve.specs.Faults.{Signature, named, Faulty, in_operand, in_list, in_bound, in_argument, in_body, no_predicate, other_count, predicate_of, with_names, with_parameters, as_parameters, class_of_sort, no_number, no_name, miscounted, Miscounted, other_class, sort_of, IsLimit, IsNumber, NeedsNumber, Among, operands, each_of, class_of, side}
+use Rattle.resolve.specs.declared.scope.Shape.TheVariants.{Ring}
+use Rattle.resolve.specs.Faults.{Signature, named, Faulty, in_operand, in_list, in_bound, in_argument, in_body, no_predicate, other_count, predicate_of, with_names, with_parameters, as_parameters, class_of_sort, shape_of, no_number, no_name, goes_round, NeedsEnds, miscounted, Miscounted, other_class, sort_of, IsLimit, IsNumber, NeedsNumber, Among, operands, each_of, class_of, side}
 
 pub place_not_set : Place ≡ Set → ⊥
 place_not_set q = cc
@@ -54,6 +55,9 @@ module _ {A : Type 0} (r : Result A Fault) (k : Signature) (w : Class) (e : Expr
 
   pub term_number : (n : Expr) (g : Fault) → IsErrAnd r (λ x. x ≡ g) → ((IsNumber n.kind → ⊥) × g ≡ NoNumber n.span) → NeedsNumber e.kind n → IfErr r (λ f. NoTerm k w e f)
   term_number n g is h at = passed r g (λ f. NoTerm k w e f) is (inr (inr (λ v. subst (Faulty k v e) (sym h.1) (no_number n at h.0))))
+
+  pub term_round : (g : Fault) → IsErrAnd r (λ x. x ≡ g) → (shape_of k ≡ Some Ring) × g ≡ Round e.span → NeedsEnds e.kind → IfErr r (λ f. NoTerm k w e f)
+  term_round g is h at = passed r g (λ f. NoTerm k w e f) is (inr (inr (λ v. subst (Faulty k v e) (sym h.1) (goes_round h.0 at))))
 
   pub term_listed : (all : Vec Expr Global) (l : List Expr) (g : Fault) → IsErrAnd r (λ x. x ≡ g) → e.kind ≡ Listed all → l ≡ all.items →
       IsLimit g ⊎ ((a : Expr) × (Among (Place, a) (each_of Place l) × Faulty k Place a g)) → IfErr r (λ f. NoTerm k w e f)
@@ -137,6 +141,9 @@ module _ {A : Type 0} (r : Result A Fault) (k : Signature) (e : Expr) where
   pub two_passed : (c d : Class) (a b : Expr) (g : Fault) → IsErrAnd r (λ x. x ≡ g) → IsLimit g ⊎ (Faulty k c a g ⊎ Faulty k d b g) → Among (c, a) (operands k e.kind) → Among (d, b) (operands k e.kind) →
       IfErr r (λ f. IsLimit f ⊎ Faulty k Formula e f)
   two_passed c d a b g is h one two = passed r g (λ f. IsLimit f ⊎ Faulty k Formula e f) is (of_two k Formula c d e a b g one two h)
+
+  pub round_passed : (g : Fault) → IsErrAnd r (λ x. x ≡ g) → (shape_of k ≡ Some Ring) × g ≡ Round e.span → NeedsEnds e.kind → IfErr r (λ f. IsLimit f ⊎ Faulty k Formula e f)
+  round_passed g is h at = passed r g (λ f. IsLimit f ⊎ Faulty k Formula e f) is (inr (subst (Faulty k Formula e) (sym h.1) (goes_round h.0 at)))
 
   pub unless_err : (P : Type 0) → IfErr r (λ f. IsLimit f ⊎ Faulty k Formula e f) → IfErr r (λ f. IsLimit f ⊎ ((P → ⊥) → Faulty k Formula e f))
   unless_err P h = if_err r (λ f. IsLimit f ⊎ Faulty k Formula e f) (λ f. IsLimit f ⊎ ((P → ⊥) → Faulty k Formula e f)) (λ g. unless k e g) h

@@ -6,6 +6,7 @@ use Rattle.trees.specs.Tree.{Expr}
 use Rattle.trees.specs.declared.tree.Item.{Item}
 use Rattle.trees.specs.declared.tree.Item.TheVariants.{Free, Row, Predicate as defined, Assert, Formula}
 use Rattle.resolve.specs.Says.{Context, text, nothing, holds, declare, in_row, define, count}
+use Rattle.resolve.specs.Spaces.{bounds}
 use Rattle.resolve.specs.declared.scope.Free.{Free as Declared}
 use Rattle.resolve.specs.declared.scope.Kind.{Kind}
 use Rattle.resolve.specs.declared.scope.Kind.TheVariants as kind
@@ -29,11 +30,11 @@ abbrev pub all_hold : List Stated → Env → Type 0
 all_hold [] e = Unit {0}
 all_hold (s ∷ l) e = Meaning s.formula.value e × all_hold l e
 
--- this expression, a formula that is true of exactly the places and sets of which it holds where the names stand for what s says, and whether a row is spoken of there
+-- this expression, a formula that is true of exactly the places and sets of which it holds where the names stand for what s says, and whether a row or a ring is spoken of there
 pub record Renders (x : Stated) (a : Expr) (s : Env → Context) : Type 0 where
   pub expr : x.expr.now ≡ a
   pub means : (e : Env) → Meaning x.formula.value e ↔ holds a.kind (s e)
-  pub row : (e : Env) → is_some (s e).row ≡ x.in_row
+  pub row : (e : Env) → is_some (bounds (s e).space) ≡ x.in_row
 
 -- the assumptions and the claims of the items, one after the other, where the names before them stand for what s says and the declared ones are numbered from n on
 abbrev pub Written : List Item → ℕ → (Env → Context) → List Stated → List Stated → Type 0

@@ -1,7 +1,8 @@
 -- Which faults a text has, and where. Of a name only its sort matters, so nothing here speaks of terms or values.
-use Rattle.std.specs.Prelude.{◌≡◌, ℕ, ◌≤◌, cond, ◌⊎◌, List, [], ◌∷◌, length, string_bytes, Option, Some, None, IsSome, Vec, Box}
+use Rattle.std.specs.Prelude.{◌≡◌, ℕ, ◌≤◌, Bool, true, cond, ◌⊎◌, List, [], ◌∷◌, length, string_bytes, Option, Some, None, IsSome, Vec, Box}
 use Rattle.std.specs.Str.{bytes_eq}
 use Rattle.std.specs.Global.{Global}
+use Rattle.trees.specs.declared.position.Span.{Span}
 use Rattle.trees.specs.Tree.{Expr, at}
 use Rattle.trees.specs.declared.tree.Name.{Name}
 use Rattle.trees.specs.declared.tree.Spanned.{Spanned}
@@ -15,28 +16,42 @@ use Rattle.trees.specs.declared.tree.ExprKind.TheVariants.{True, False, Empty, N
 use Rattle.trees.specs.declared.tree.Parameter.{Parameter}
 use Rattle.trees.specs.declared.tree.Predicate.{Predicate}
 use Rattle.trees.specs.declared.tree.Row.{Row}
+use Rattle.trees.specs.declared.tree.Ends.{Ends}
+use Rattle.trees.specs.declared.tree.Ends.TheVariants as ends
 use Rattle.trees.specs.declared.tree.Item.{Item}
 use Rattle.trees.specs.declared.tree.Item.TheVariants.{Free, Row as Stands, Predicate as Defined, Assert, Formula as Claimed}
+use Rattle.resolve.specs.declared.scope.Shape.{Shape}
+use Rattle.resolve.specs.declared.scope.Shape.TheVariants as shape
 use Rattle.resolve.specs.declared.fault.Class.{Class}
 use Rattle.resolve.specs.declared.fault.Class.TheVariants.{Formula, Place, Set}
 use Rattle.resolve.specs.declared.fault.Fault.{Fault}
-use Rattle.resolve.specs.declared.fault.Fault.TheVariants.{Class as OtherClass, Number as NoNumber, Name as NoName, Predicate as NoPredicate, Arguments as OtherCount, Modulus, Rest, Again, Deep, Large, Memory}
+use Rattle.resolve.specs.declared.fault.Fault.TheVariants.{Class as OtherClass, Number as NoNumber, Name as NoName, Predicate as NoPredicate, Arguments as OtherCount, Modulus, Rest, Again, Round as GoesRound, Late, Deep, Large, Memory}
 
--- the names and predicates that are known where a part of a text stands, the innermost first
+-- the names and predicates that are known where a part of a text stands, and whether a row or a ring is spoken of there, the innermost first
 pub data Signature : Type 0 where
   outermost : Signature
   named : List ℕ → Sort → Signature → Signature
+  placed : Shape → Signature → Signature
   defined : Predicate → Signature → Signature
 
 abbrev pub sort_of : Signature → List ℕ → Option Sort
 sort_of outermost y = None
 sort_of (named x sort k) y = cond (bytes_eq x y) (Some sort) (sort_of k y)
+sort_of (placed s k) y = sort_of k y
 sort_of (defined p k) y = sort_of k y
+
+-- whether a row or a ring is spoken of
+abbrev pub shape_of : Signature → Option Shape
+shape_of outermost = None
+shape_of (named x sort k) = shape_of k
+shape_of (placed s k) = Some s
+shape_of (defined p k) = shape_of k
 
 -- a predicate, and what is known where it is declared
 abbrev pub predicate_of : Signature → List ℕ → Option (Predicate × Signature)
 predicate_of outermost y = None
 predicate_of (named x sort k) y = predicate_of k y
+predicate_of (placed s k) y = predicate_of k y
 predicate_of (defined p k) y = cond (bytes_eq (string_bytes p.name.text) y) (Some (p, k)) (predicate_of k y)
 
 abbrev pub with_names : Sort → List Name → Signature → Signature
@@ -121,6 +136,17 @@ abbrev pub IsNumber : ExprKind → Type 0
 IsNumber (Number n) = Unit {0}
 IsNumber _ = ⊥
 
+-- what tells where places begin or end, or which of them stands before another: on a ring nothing does
+abbrev pub NeedsEnds : ExprKind → Type 0
+NeedsEnds (Number n) = Unit {0}
+NeedsEnds (Unary' Min _ a _) = Unit {0}
+NeedsEnds (Unary' Max _ a _) = Unit {0}
+NeedsEnds (Binary' Less _ a _ _ b _) = Unit {0}
+NeedsEnds (Binary' AtMost _ a _ _ b _) = Unit {0}
+NeedsEnds (Binary' Greater _ a _ _ b _) = Unit {0}
+NeedsEnds (Binary' AtLeast _ a _ _ b _) = Unit {0}
+NeedsEnds _ = ⊥
+
 -- the numbers of a count that are at fault: the first, unless it is from 2 to 16, or else the second, unless it is below the first
 abbrev pub Miscounted : Spanned ℕ → Spanned ℕ → Fault → Type 0
 Miscounted m r f = ((2 ≤ m.kind → m.kind ≤ 16 → ⊥) × f ≡ Modulus m.span) ⊎ ((m.kind ≤ r.kind) × f ≡ Rest m.kind r.span)
@@ -150,6 +176,8 @@ pub data Faulty : Signature → Class → Expr → Fault → Type 0 where
   no_name : {k : Signature} {wanted : Class} {e : Expr} {x : Name} → e.kind ≡ Named x → sort_of k (string_bytes x.text) ≡ None → Faulty k wanted e (NoName x.span)
   -- no number behind + or -
   no_number : {k : Signature} {wanted : Class} {e : Expr} (n : Expr) → NeedsNumber e.kind n → (IsNumber n.kind → ⊥) → Faulty k wanted e (NoNumber n.span)
+  -- a place's number, an end or an order, on a ring
+  goes_round : {k : Signature} {wanted : Class} {e : Expr} → shape_of k ≡ Some shape.Ring → NeedsEnds e.kind → Faulty k wanted e (GoesRound e.span)
   -- a predicate that is not known
   no_predicate : {k : Signature} {e : Expr} {x : Name} (all : Vec Expr Global) → e.kind ≡ Call x all → predicate_of k (string_bytes x.text) ≡ None → Faulty k Formula e (NoPredicate x.span)
   -- not as many arguments as the predicate has parameters
@@ -182,13 +210,22 @@ abbrev pub NamedAgain : Sort → List Name → Signature → Fault → Type 0
 NamedAgain sort [] k f = ⊥
 NamedAgain sort (x ∷ xs) k f = (IsSome (sort_of k (string_bytes x.text)) × f ≡ Again x.span) ⊎ NamedAgain sort xs (named (string_bytes x.text) sort k) f
 
--- the names of the row's places and of its last place are known from it on
-abbrev pub with_row : Row → Signature → Signature
-with_row r k = named (string_bytes r.last.text) OfPlace (named (string_bytes r.places.text) OfSet k)
+-- the names of the row's places and of its last place are known from it on, or that of the ring's places
+abbrev pub with_ends : Ends → Signature → Signature
+with_ends (ends.Last x) k = placed shape.Row (named (string_bytes x.text) OfPlace k)
+with_ends ends.Round k = placed shape.Ring k
 
--- one of them is known already
+abbrev pub with_row : Row → Signature → Signature
+with_row r k = with_ends r.ends (named (string_bytes r.places.text) OfSet k)
+
+-- the name of the last place is known already
+abbrev pub EndsAgain : Ends → Signature → Fault → Type 0
+EndsAgain (ends.Last x) k f = NamedAgain OfPlace (x ∷ []) k f
+EndsAgain ends.Round k f = ⊥
+
+-- a row or a ring is spoken of already, or one of the names is known already
 abbrev pub RowAgain : Row → Signature → Fault → Type 0
-RowAgain r k f = NamedAgain OfSet (r.places ∷ []) k f ⊎ NamedAgain OfPlace (r.last ∷ []) (named (string_bytes r.places.text) OfSet k) f
+RowAgain r k f = (IsSome (shape_of k) × f ≡ Again r.places.span) ⊎ (NamedAgain OfSet (r.places ∷ []) k f ⊎ EndsAgain r.ends (named (string_bytes r.places.text) OfSet k) f)
 
 -- one of the items has this fault, where those before it are known
 abbrev pub FaultyText : List Item → Signature → Fault → Type 0
@@ -200,3 +237,17 @@ FaultyText (Defined p ∷ items) k f =
     ⊎ (Faulty (with_parameters p.parameters.items k) Formula p.body f ⊎ FaultyText items (defined p k) f)
 FaultyText (Assert a ∷ items) k f = Faulty k Formula a f ⊎ FaultyText items k f
 FaultyText (Claimed a ∷ items) k f = Faulty k Formula a f ⊎ FaultyText items k f
+
+-- where a ring stands and something else than declarations does before it
+abbrev pub LateEnds : Bool → Ends → Span → Fault → Type 0
+LateEnds true ends.Round span f = f ≡ Late span
+LateEnds _ _ span f = ⊥
+
+-- one of the items is such a ring; of what stands before them it is said whether it is something else than declarations
+abbrev pub LateRing : Bool → List Item → Fault → Type 0
+LateRing late [] f = ⊥
+LateRing late (Free sort names ∷ items) f = LateRing late items f
+LateRing late (Stands r ∷ items) f = LateEnds late r.ends r.places.span f ⊎ LateRing late items f
+LateRing late (Defined p ∷ items) f = LateRing true items f
+LateRing late (Assert a ∷ items) f = LateRing true items f
+LateRing late (Claimed a ∷ items) f = LateRing true items f

@@ -2,14 +2,17 @@
 use Rattle.std.specs.Prelude.{◌≡◌, ℕ, ◌<◌, Bool, true, List, Option, Some, None, string_bytes}
 use Rattle.claims.specs.Claims.{has}
 use Rattle.formulas.specs.Meaning.{Env, value, members, with_place, with_group}
-use Rattle.resolve.specs.Says.{Value, place, set, Context, nothing, bind, with_row, define, Inside, SomePlace, EachPlace, SomeSet, EachSet}
+use Rattle.resolve.specs.Says.{Value, place, set, Context, nothing, bind, placed, define, Inside, SomePlace, EachPlace, SomeSet, EachSet}
 use Rattle.resolve.specs.declared.scope.Term.{Term}
 use Rattle.resolve.specs.declared.scope.Term.TheVariants.{Place, Set}
 use Rattle.trees.specs.declared.tree.Sort.{Sort}
 use Rattle.trees.specs.declared.tree.Sort.TheVariants.{Place as OfPlace, Set as OfSet}
 use Rattle.trees.specs.declared.tree.Quantifier.{Quantifier}
 use Rattle.trees.specs.declared.tree.Quantifier.TheVariants as quantifier
-use Rattle.resolve.specs.Faults.{Signature, outermost, named, defined}
+use Rattle.resolve.specs.Spaces.{Space, the_row, the_ring}
+use Rattle.resolve.specs.Faults.{Signature, outermost, named, placed as within, defined}
+use Rattle.resolve.specs.declared.scope.Shape.{Shape}
+use Rattle.resolve.specs.declared.scope.Shape.TheVariants as shape
 use Rattle.resolve.specs.declared.scope.Scope.{Scope}
 use Rattle.resolve.specs.declared.scope.Scope.TheVariants.{Outermost, Named', Row', Defined'}
 
@@ -18,19 +21,36 @@ abbrev pub meant : Term → Env → Value
 meant (Place t) e = place (value t.value e)
 meant (Set t) e = set (members t.value e)
 
+-- a row with these places, or a ring
+abbrev pub space_of : Shape → List Bool → Space
+space_of shape.Row u = the_row u
+space_of shape.Ring u = the_ring u
+
 abbrev pub context : Scope → Env → Context
 context Outermost e = nothing
 context (Named' x t _ outer) e = bind x.now (meant t.now e) (context outer e)
-context (Row' n _ outer) e = with_row (e.groups n) (context outer e)
+context (Row' n s _ outer) e = placed (space_of s (e.groups n)) (context outer e)
 context (Defined' p _ outer) e = define p.now (context outer e)
 
--- the number of the row, where one is spoken of, and its places
+-- the number of the row or of the ring, where one is spoken of
 abbrev pub row_of : Scope → Option ℕ
 row_of Outermost = None
 row_of (Named' x t _ outer) = row_of outer
-row_of (Row' n _ outer) = Some n
+row_of (Row' n s _ outer) = Some n
 row_of (Defined' p _ outer) = row_of outer
 
+-- the number of the ring, where one is spoken of
+abbrev pub ring_number : Shape → ℕ → Option ℕ
+ring_number shape.Row n = None
+ring_number shape.Ring n = Some n
+
+abbrev pub ring_of : Scope → Option ℕ
+ring_of Outermost = None
+ring_of (Named' x t _ outer) = ring_of outer
+ring_of (Row' n s _ outer) = ring_number s n
+ring_of (Defined' p _ outer) = ring_of outer
+
+-- the places of the set with a number, if there is one
 abbrev pub places_of : Option ℕ → Env → Option (List Bool)
 places_of None e = None
 places_of (Some n) e = Some (e.groups n)
@@ -43,7 +63,7 @@ term_sort (Set t) = OfSet
 abbrev pub signature : Scope → Signature
 signature Outermost = outermost
 signature (Named' x t _ outer) = named (string_bytes x.now.text) (term_sort t.now) (signature outer)
-signature (Row' n _ outer) = signature outer
+signature (Row' n s _ outer) = within s (signature outer)
 signature (Defined' p _ outer) = defined p.now (signature outer)
 
 -- the same places and sets for the names with numbers below n
@@ -57,7 +77,7 @@ Settled n t = (e f : Env) → Agree n e f → meant t e ≡ meant t f
 abbrev pub Steady : ℕ → Scope → Type 0
 Steady n Outermost = Unit {0}
 Steady n (Named' x t _ outer) = Settled n t.now × Steady n outer
-Steady n (Row' m _ outer) = (m < n) × Steady n outer
+Steady n (Row' m s _ outer) = (m < n) × Steady n outer
 Steady n (Defined' p _ outer) = Steady n outer
 
 -- the row's number, where one is spoken of, is below n

@@ -1,27 +1,28 @@
 // What a text asks: its declared names, what is assumed of them, and what is claimed.
-ghost use Rattle.std.specs.Prelude.{◌≡◌, ℕ, suc, ◌++◌, ◌∷◌, ◌↔◌, ◌⊎◌, map, IfOk, IfErr, OnOk};
+ghost use Rattle.std.specs.Prelude.{◌≡◌, ℕ, suc, ◌+◌, ◌++◌, ◌∷◌, ◌↔◌, ◌⊎◌, map, false, IfOk, IfErr, OnOk};
 ghost use Rattle.formulas.specs.Meaning.{Env};
 ghost use Rattle.formulas.specs.Sets.{highest};
 ghost use Rattle.resolve.specs.Kinds.{kind_of};
-ghost use Rattle.resolve.specs.Says.{declare, in_row, count, place};
+ghost use Rattle.resolve.specs.Says.{declare, in_row, ending, count, place};
 ghost use Rattle.resolve.specs.Scopes.{context, meant, signature, term_sort, Steady};
 ghost use Rattle.resolve.specs.declared.scope.Kind.TheVariants.{Row as OfRow};
 ghost use Rattle.trees.specs.declared.tree.Sort.TheVariants.{Place as OfPlace};
-ghost use Rattle.resolve.specs.Faults.{Faulty, FaultyText, RowAgain, with_row, NamedAgain, IsLimit, outermost, with_names, with_parameters};
+ghost use Rattle.resolve.specs.Faults.{Faulty, FaultyText, LateRing, RowAgain, EndsAgain, with_row, with_ends, NamedAgain, IsLimit, outermost, with_names, with_parameters};
 ghost use Rattle.resolve.specs.declared.fault.Class.TheVariants.{Formula as OfFormula};
 ghost use Rattle.resolve.specs.Asks.{Asks, AsksMore, Written, declared};
 
 use crate::built::most;
 use crate::fault::Fault;
-use crate::scope::{Free, Kind, Scope, Term, defined, is_in_row, named};
+use crate::late::late_ring;
+use crate::scope::{Free, Kind, Scope, Shape, Term, defined, is_in_row, named};
 use crate::statements::numbered;
 use crate::terms::{MOST_CALLS, MOST_PARTS, Resolver, inner};
 use formulas::formula::{Formula, Group};
 use std::alloc::{AllocError, Global};
 use trees::position::Span;
-use trees::tree::{Expr, Item, Name, Parameter, Row, Sort};
+use trees::tree::{Ends, Expr, Item, Name, Parameter, Row, Sort};
 
-/// A formula of the text, as it stands there and as a formula over numbers, and whether a row is spoken of there.
+/// A formula of the text, as it stands there and as a formula over numbers, and whether a row or a ring is spoken of there.
 #[derive(Drop)]
 pub struct Stated<'a> {
     pub expr: &'a Expr,
@@ -150,7 +151,7 @@ impl Resolver {
         }
     }
 
-    // The row, whose places are the set with the next number, and what the items behind it ask.
+    // The row or the ring, whose places are the set with the next number, and what the items behind it ask.
     #[cycle(asking)]
     fn row<'a, 's>(
         &mut self,
@@ -168,25 +169,54 @@ impl Resolver {
         ensures faults { IfErr result (λ f. IsLimit f ⊎ (RowAgain row.now (signature scope.now) f ⊎ FaultyText rest.now (with_row row.now (signature scope.now)) f)) }
     {
         let calls = inner(calls, row.places.span)?;
-        if named(scope, &row.places).is_some() {
+        if is_in_row(scope) || named(scope, &row.places).is_some() {
             return Err(Fault::Again(row.places.span));
         }
-        let Some(next) = level.checked_add(1) else {
-            return Err(Fault::Deep(row.places.span));
-        };
         asked.free.push(Free {
             name: &row.places,
             kind: Kind::Row,
         })?;
         let places = numbered(self.heap, Sort::Set, level)?;
         let with_places = Scope::Named(&row.places, &places, &*scope);
-        if named(&with_places, &row.last).is_some() {
-            return Err(Fault::Again(row.last.span));
+        self.ends(asked, row, rest, &with_places, level, calls)
+    }
+
+    // How the places end that are the set with this number, and what the items behind that ask.
+    #[cycle(asking)]
+    fn ends<'a, 's>(
+        &mut self,
+        asked: &mut Asked<'a>,
+        row: &'a Row,
+        rest: &'a [Item],
+        scope: &'s Scope<'s>,
+        level: u32,
+        calls: u32,
+    ) -> Result<(), Fault>
+    where
+        'a: 's,
+        requires { Steady (level + 1) scope.now }
+        ensures says { OnOk result (AsksMore asked.old asked.new (declared rest.now) (λ l m. Written rest.now (suc level) (λ e. ending row.now.ends (e.groups level) (context scope.now e)) l m)) }
+        ensures faults { IfErr result (λ f. IsLimit f ⊎ (EndsAgain row.now.ends (signature scope.now) f ⊎ FaultyText rest.now (with_ends row.now.ends (signature scope.now)) f)) }
+    {
+        let calls = inner(calls, row.places.span)?;
+        let Some(next) = level.checked_add(1) else {
+            return Err(Fault::Deep(row.places.span));
+        };
+        match &row.ends {
+            Ends::Last(name) => {
+                if named(scope, name).is_some() {
+                    return Err(Fault::Again(name.span));
+                }
+                let last = last_of(self.heap, level)?;
+                let with_last = Scope::Named(name, &last, &*scope);
+                let inside = Scope::Row(level, Shape::Row, &with_last);
+                self.items(asked, rest, &inside, next, calls)
+            }
+            Ends::Round => {
+                let inside = Scope::Row(level, Shape::Ring, &*scope);
+                self.items(asked, rest, &inside, next, calls)
+            }
         }
-        let last = last_of(self.heap, level)?;
-        let with_last = Scope::Named(&row.last, &last, &with_places);
-        let inside = Scope::Row(level, &with_last);
-        self.items(asked, rest, &inside, next, calls)
     }
 
     // Declared names, each with the next number, and what the items behind them ask.
@@ -231,11 +261,15 @@ impl Resolver {
 /// What a text asks.
 ///
 /// # Errors
-/// A limit, or a fault that the text has: the first that is met.
+/// A limit; a ring that stands behind something else than declarations; or another fault that the text has: the first that is met.
 pub fn ask(heap: Global, items: &[Item]) -> Result<Asked<'_>, Fault>
     ensures asks { IfOk result (λ asked. Asks items.now asked) }
-    ensures faults { IfErr result (λ f. IsLimit f ⊎ FaultyText items.now outermost f) }
+    ensures early { IfOk result (λ _. (f : Fault) → LateRing false items.now f → ⊥) }
+    ensures faults { IfErr result (λ f. IsLimit f ⊎ (LateRing false items.now f ⊎ FaultyText items.now outermost f)) }
 {
+    if let Some(span) = late_ring(items, false) {
+        return Err(Fault::Late(span));
+    }
     let mut asked = Asked {
         free: Vec::new(heap),
         assumed: Vec::new(heap),

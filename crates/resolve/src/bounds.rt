@@ -1,4 +1,4 @@
-// Formulas of some place or set, or of every one, and where a row is spoken of, of those of the row: `ex1 p: F` is then `ex1 p: p in row & F`, and
+// Formulas of some place or set, or of every one, and where a row or a ring is spoken of, of those of it. Of a row: `ex1 p: F` is then `ex1 p: p in row & F`, and
 // `all1 p: F` is `all1 p: p in row => F`; of sets it is said that they lie within the row.
 ghost use Rattle.std.specs.Prelude.{◌↔◌, IfOk, None};
 ghost use Rattle.formulas.specs.Meaning.{Env, Meaning};

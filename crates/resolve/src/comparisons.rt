@@ -10,6 +10,7 @@ ghost use Rattle.resolve.specs.declared.fault.Class.{Class};
 use crate::built::{and, less, lies_in, negation, same, sub};
 use crate::fault::{Class, Fault};
 use crate::scope::{Scope, Term};
+use crate::steps::check_ends;
 use crate::terms::Resolver;
 use formulas::formula::{Formula, Group};
 use trees::tree::{Binary, Expr, ExprKind, Unary};
@@ -139,13 +140,21 @@ impl Resolver {
                     let formula = self.equal(a, b, scope, calls)?;
                     Ok(negation(self.heap, formula)?)
                 }
-                Binary::Less => self.before(a, b, scope, calls),
-                Binary::Greater => self.before(b, a, scope, calls),
+                Binary::Less => {
+                    check_ends(scope, expr.span)?;
+                    self.before(a, b, scope, calls)
+                }
+                Binary::Greater => {
+                    check_ends(scope, expr.span)?;
+                    self.before(b, a, scope, calls)
+                }
                 Binary::AtMost => {
+                    check_ends(scope, expr.span)?;
                     let formula = self.before(b, a, scope, calls)?;
                     Ok(negation(self.heap, formula)?)
                 }
                 Binary::AtLeast => {
+                    check_ends(scope, expr.span)?;
                     let formula = self.before(a, b, scope, calls)?;
                     Ok(negation(self.heap, formula)?)
                 }

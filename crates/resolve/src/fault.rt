@@ -30,6 +30,10 @@ pub enum Fault {
     // that number, and where the rest stands
     Rest(u32, Span),
     Again(Span),
+    // a place's number, an end or an order, on a ring
+    Round(Span),
+    // a ring, behind something else than declarations
+    Late(Span),
     Deep(Span),
     Large(Span),
     Memory,
@@ -75,6 +79,8 @@ impl Fault {
             | Fault::Modulus(span)
             | Fault::Rest(_, span)
             | Fault::Again(span)
+            | Fault::Round(span)
+            | Fault::Late(span)
             | Fault::Deep(span)
             | Fault::Large(span) => Some(*span),
             Fault::Memory => None,
@@ -116,6 +122,12 @@ impl Fault {
             ),
             Fault::Again(_) => format!(in heap;
                 "expected a name that is not declared yet, found `{found}`"
+            ),
+            Fault::Round(_) => format!(in heap;
+                "a ring has no first place and no last one, found `{found}`"
+            ),
+            Fault::Late(_) => format!(in heap;
+                "expected only declarations (`var1`, `var2`) before `rings;`, found other items before `{found}`"
             ),
             Fault::Deep(_) => String::from_str(
                 heap,

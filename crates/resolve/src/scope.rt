@@ -3,9 +3,10 @@ ghost use Rattle.std.specs.Prelude.{◌≡◌, ℕ, List, string_bytes, IfSome, 
 ghost use Rattle.std.specs.Str.{bytes_eq};
 ghost use Rattle.formulas.specs.Meaning.{Env};
 ghost use Rattle.resolve.specs.Says.{Value, none, says_of};
-ghost use Rattle.resolve.specs.Scopes.{meant, context, row_of, Steady, term_sort, signature};
+ghost use Rattle.resolve.specs.Spaces.{around, bounds};
+ghost use Rattle.resolve.specs.Scopes.{meant, context, row_of, ring_of, places_of, Steady, term_sort, signature};
 ghost use Rattle.resolve.specs.Kinds.{kind_of};
-ghost use Rattle.resolve.specs.Faults.{sort_of, predicate_of};
+ghost use Rattle.resolve.specs.Faults.{sort_of, predicate_of, shape_of};
 
 use formulas::formula::{Group, Place};
 use trees::tree::{Name, Predicate, Sort};
@@ -17,12 +18,19 @@ pub enum Term {
     Set(Box<Group>),
 }
 
-/// The names and predicates that are known at a part of a text, the innermost first, and the number of the set that is the row, where one is spoken of.
+/// What places are that follow one another: a row, which ends with a last one, or a ring, where behind the last one the first comes again.
+#[derive(Clone, Copy, Debug, PartialEq, Eq)]
+pub enum Shape {
+    Row,
+    Ring,
+}
+
+/// The names and predicates that are known at a part of a text, the innermost first, and where a row or a ring is spoken of, the number of the set that it is.
 #[derive(Drop)]
 pub enum Scope<'s> {
     Outermost,
     Named(&'s Name, &'s Term, &'s Scope<'s>),
-    Row(u32, &'s Scope<'s>),
+    Row(u32, Shape, &'s Scope<'s>),
     Defined(&'s Predicate, &'s Scope<'s>),
 }
 
@@ -33,7 +41,7 @@ pub struct Known<'s> {
     pub scope: &'s Scope<'s>,
 }
 
-/// What a declared name stands for: a place, a set, or the set of the row's places.
+/// What a declared name stands for: a place, a set, or the set of the row's places or the ring's.
 #[derive(Clone, Copy, Debug, PartialEq, Eq)]
 pub enum Kind {
     Place,
@@ -80,26 +88,42 @@ pub fn named<'s>(scope: &'s Scope<'s>, name: &Name) -> Option<&'s Term>
             }
             named(outer, name)
         }
-        Scope::Row(_, outer) => named(outer, name),
+        Scope::Row(_, _, outer) => named(outer, name),
         Scope::Defined(_, outer) => named(outer, name),
     }
 }
 
-/// The number of the set that is the row, where one is spoken of.
+/// The number of the set that is the row or the ring, where one is spoken of.
 pub fn row_of(scope: &Scope<'_>) -> Option<u32>
     ensures { result ≡ row_of scope.now }
 {
     match scope {
         Scope::Outermost => None,
         Scope::Named(_, _, outer) => row_of(outer),
-        Scope::Row(number, _) => Some(*number),
+        Scope::Row(number, _, _) => Some(*number),
         Scope::Defined(_, outer) => row_of(outer),
     }
 }
 
-/// Whether a row is spoken of.
+/// The number of the set that is the ring, where one is spoken of.
+pub fn ring_of(scope: &Scope<'_>) -> Option<u32>
+    ensures { result ≡ ring_of scope.now }
+{
+    match scope {
+        Scope::Outermost => None,
+        Scope::Named(_, _, outer) => ring_of(outer),
+        Scope::Row(number, shape, _) => match shape {
+            Shape::Row => None,
+            Shape::Ring => Some(*number),
+        },
+        Scope::Defined(_, outer) => ring_of(outer),
+    }
+}
+
+/// Whether a row or a ring is spoken of.
 pub fn is_in_row(scope: &Scope<'_>) -> bool
-    ensures { (e : Env) → is_some (context scope.now e).row ≡ result }
+    ensures space { (e : Env) → is_some (bounds (context scope.now e).space) ≡ result }
+    ensures shape { is_some (shape_of (signature scope.now)) ≡ result }
 {
     row_of(scope).is_some()
 }
@@ -113,7 +137,7 @@ pub fn defined<'s>(scope: &'s Scope<'s>, name: &Name) -> Option<Known<'s>>
     match scope {
         Scope::Outermost => None,
         Scope::Named(_, _, outer) => defined(outer, name),
-        Scope::Row(_, outer) => defined(outer, name),
+        Scope::Row(_, _, outer) => defined(outer, name),
         Scope::Defined(predicate, outer) => {
             if is_same(&predicate.name, name) {
                 return Some(Known {

@@ -1,9 +1,8 @@
 // Expressions as terms.
-ghost use Rattle.std.specs.Prelude.{◌≡◌, ℕ, ◌+◌, ◌-◌, ◌⊎◌, map, IfOk, IfErr, List, string_bytes};
+ghost use Rattle.std.specs.Prelude.{◌≡◌, ◌+◌, ◌⊎◌, map, IfOk, IfErr, List, string_bytes};
 ghost use Rattle.formulas.specs.Meaning;
 ghost use Rattle.formulas.specs.Meaning.{Env, members};
-ghost use Rattle.resolve.specs.Says.{value, place, set, each_place};
-ghost use Rattle.resolve.specs.declared.scope.Scope.{Scope as Known};
+ghost use Rattle.resolve.specs.Says.{value, number_of, place, set, each_place};
 ghost use Rattle.resolve.specs.Scopes.{meant, context, term_sort, signature};
 ghost use Rattle.resolve.specs.Faults.{Faulty, sort_of, IsLimit, IsNumber, Among, class_of, class_of_sort, each_of};
 ghost use Rattle.trees.specs.Tree.{Expr};
@@ -11,7 +10,8 @@ ghost use Rattle.resolve.specs.declared.fault.Class.{Class};
 
 use crate::built::{inter, least, minus, most, only, prev, succ, union};
 use crate::fault::{Class, Fault};
-use crate::scope::{Scope, Term, named};
+use crate::scope::{Scope, Term, named, ring_of};
+use crate::steps::check_ends;
 use formulas::formula::{Group, Place};
 use std::alloc::Global;
 use trees::position::Span;
@@ -42,7 +42,7 @@ pub fn inner(calls: u32, span: Span) -> Result<u32, Fault>
 
 // The number that stands behind `+` or `-`.
 fn number(expr: &Expr) -> Result<u32, Fault>
-    ensures means { IfOk result (λ n. (s : Known) (e : Env) → value expr.now.kind (context s e) ≡ place n) }
+    ensures means { IfOk result (λ n. n ≡ number_of expr.now.kind) }
     ensures faults { IfErr result (λ f. (IsNumber expr.now.kind → ⊥) × f ≡ Fault.Number (expr.now.span)) }
 {
     match &expr.kind {
@@ -133,32 +133,6 @@ impl Resolver {
         }
     }
 
-    // The place n further on.
-    fn further(&mut self, place: Box<Place>, n: u32, span: Span) -> Result<Box<Place>, Fault>
-        ensures means { IfOk result (λ t. (e : Env) → Meaning.value t.value e ≡ Meaning.value place.value e + n) }
-        ensures faults { IfErr result (λ f. IsLimit f) }
-    {
-        let mut moved = place;
-        for i in 0..n {
-            self.spend(span)?;
-            moved = succ(self.heap, moved)?;
-        }
-        Ok(moved)
-    }
-
-    // The place n before, but not before place 0.
-    fn back(&mut self, place: Box<Place>, n: u32, span: Span) -> Result<Box<Place>, Fault>
-        ensures means { IfOk result (λ t. (e : Env) → Meaning.value t.value e ≡ Meaning.value place.value e - n) }
-        ensures faults { IfErr result (λ f. IsLimit f) }
-    {
-        let mut moved = place;
-        for i in 0..n {
-            self.spend(span)?;
-            moved = prev(self.heap, moved)?;
-        }
-        Ok(moved)
-    }
-
     // What a name stands for.
     fn name(&mut self, name: &Name, scope: &Scope<'_>) -> Result<Term, Fault>
         ensures means { IfOk result (λ t. (e : Env) → (context scope.now e).value (string_bytes name.now.text) ≡ meant t e) }
@@ -192,17 +166,20 @@ impl Resolver {
         match &expr.kind {
             ExprKind::Named(name) => self.name(name, scope),
             ExprKind::Number(n) => {
+                check_ends(scope, expr.span)?;
                 let first = Box::new(self.heap, Place::First)?;
-                Ok(Term::Place(self.further(first, *n, expr.span)?))
+                Ok(Term::Place(self.further(first, *n, None, expr.span)?))
             }
             ExprKind::Empty => Ok(Term::Set(Box::new(self.heap, Group::Empty)?)),
             ExprKind::Listed(all) => Ok(Term::Set(self.listed(all, scope, calls)?)),
             ExprKind::Unary(sign, a) => match sign {
                 Unary::Min => {
+                    check_ends(scope, expr.span)?;
                     let a = self.group(a, scope, calls)?;
                     Ok(Term::Place(least(self.heap, a)?))
                 }
                 Unary::Max => {
+                    check_ends(scope, expr.span)?;
                     let a = self.group(a, scope, calls)?;
                     Ok(Term::Place(most(self.heap, a)?))
                 }
@@ -211,11 +188,11 @@ impl Resolver {
             ExprKind::Binary(sign, a, b) => match sign {
                 Binary::Plus => {
                     let a = self.place(a, scope, calls)?;
-                    Ok(Term::Place(self.further(a, number(b)?, expr.span)?))
+                    Ok(Term::Place(self.further(a, number(b)?, ring_of(scope), expr.span)?))
                 }
                 Binary::Minus => {
                     let a = self.place(a, scope, calls)?;
-                    Ok(Term::Place(self.back(a, number(b)?, expr.span)?))
+                    Ok(Term::Place(self.back(a, number(b)?, ring_of(scope), expr.span)?))
                 }
                 Binary::Union => {
                     let a = self.group(a, scope, calls)?;

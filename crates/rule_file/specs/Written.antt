@@ -1,5 +1,5 @@
 -- The tokens of a tree, written one after the other.
-use Rattle.std.specs.Prelude.{List, [], ◌∷◌, ◌++◌}
+use Rattle.std.specs.Prelude.{Option, Some, None, List, [], ◌∷◌, ◌++◌}
 use Rattle.std.specs.List.{flat_map}
 use Rattle.rule_file.specs.declared.token.Token.{Token}
 use Rattle.rule_file.specs.declared.tree.Term.{Term}
@@ -20,6 +20,7 @@ use Rattle.rule_file.specs.declared.tree.Named.{Named}
 use Rattle.rule_file.specs.declared.tree.Statement.{Statement}
 use Rattle.rule_file.specs.declared.tree.Statement.TheVariants as statement
 use Rattle.rule_file.specs.declared.tree.Line.{Line}
+use Rattle.rule_file.specs.declared.tree.RingLine.{RingLine}
 use Rattle.rule_file.specs.declared.tree.File.{File}
 
 abbrev pub term_tokens : Term → List Token
@@ -75,5 +76,10 @@ statement_tokens (statement.Row h ms) = heading_tokens h ++ flat_map module_toke
 abbrev pub line_tokens : Line → List Token
 line_tokens l = statement_tokens l.statement ++ l.ends.items
 
+-- the line `ring:` of a file that has one
+abbrev pub ring_tokens : Option RingLine → List Token
+ring_tokens None = []
+ring_tokens (Some l) = heading_tokens l.heading ++ l.ends.items
+
 abbrev pub file_tokens : File → List Token
-file_tokens f = f.front.items ++ (heading_tokens f.heading ++ (f.bits.items ++ (f.ends.items ++ flat_map line_tokens f.lines.items)))
+file_tokens f = f.front.items ++ (heading_tokens f.heading ++ (f.bits.items ++ (f.ends.items ++ (ring_tokens f.ring ++ flat_map line_tokens f.lines.items))))

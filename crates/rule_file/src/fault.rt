@@ -45,6 +45,8 @@ pub enum Fault {
     Reserved(Token),
     #[error("the bits are named twice")]
     SecondBits(Token),
+    #[error("the ring is declared further on")]
+    LateRing(Token),
     #[error("out of memory")]
     OutOfMemory,
 }
@@ -97,6 +99,7 @@ impl Wanted {
 fn is_word(kind: Kind) -> bool {
     match kind {
         Kind::Bits
+        | Kind::Ring
         | Kind::Allowed
         | Kind::Table
         | Kind::Never
@@ -183,6 +186,12 @@ impl fmt::Display for Message<'_> {
                 )
             }
             Fault::SecondBits(_) => write!(f, "expected one line `bits:`, found a second one"),
+            Fault::LateRing(_) => {
+                write!(
+                    f,
+                    "expected `ring:` right behind the line `bits:`, and once; found it further on"
+                )
+            }
             Fault::OutOfMemory => write!(f, "there is not enough memory"),
         }
     }
@@ -196,7 +205,8 @@ impl Fault {
             | Fault::SixthBit(token)
             | Fault::Twice(token)
             | Fault::Reserved(token)
-            | Fault::SecondBits(token) => Some(token.span),
+            | Fault::SecondBits(token)
+            | Fault::LateRing(token) => Some(token.span),
             Fault::Expected(_, None) => Some(Span {
                 start: text.len(),
                 end: text.len(),

@@ -4,14 +4,14 @@ ghost use Rattle.std.specs.Prelude.{◌≡◌, ◌++◌, IfOk, length};
 ghost use Rattle.std.specs.List.{flat_map};
 ghost use Rattle.rule_file.specs.Covering.{Covers};
 ghost use Rattle.rule_file.specs.Claims.{AreBits, claim_names, Differ};
-ghost use Rattle.rule_file.specs.Written.{line_tokens, file_tokens};
+ghost use Rattle.rule_file.specs.Written.{line_tokens, ring_tokens, file_tokens};
 
 use crate::cursor::{expected, run};
 use crate::fault::{Fault, Wanted};
 use crate::names::{check_bits, check_claims};
 use crate::statements::{Section, heading, section_behind, statement, wanted_behind};
 use crate::token::{Kind, Token, tokens};
-use crate::tree::{File, Line};
+use crate::tree::{File, Line, RingLine};
 use std::alloc::Global;
 
 // The ends of lines behind a statement: one at least, or the end of the file.
@@ -58,6 +58,24 @@ fn lines(alloc: Global, tokens: &[Token]) -> Result<Vec<Line>, Fault>
     Ok(all)
 }
 
+// The line `ring:`, if the tokens begin with its word.
+fn ring_line<'a>(
+    alloc: Global,
+    tokens: &'a [Token],
+) -> Result<(Option<RingLine>, &'a [Token]), Fault>
+    ensures { IfOk result (λ r. ring_tokens r.0 ++ r.1.now ≡ tokens.now) }
+{
+    let [first, ..] = tokens else {
+        return Ok((None, tokens));
+    };
+    if first.kind != Kind::Ring {
+        return Ok((None, tokens));
+    }
+    let (heading, rest) = heading(tokens, Kind::Ring, Wanted::Statement)?;
+    let (ends, rest) = line_ends(alloc, rest, Wanted::LineEnd)?;
+    Ok((Some(RingLine { heading, ends }), rest))
+}
+
 // The names of the bits: one at least.
 fn bits<'a>(
     alloc: Global,
@@ -85,6 +103,7 @@ fn file(alloc: Global, text: &[u8], tokens: &[Token]) -> Result<File, Fault>
     let (heading, rest) = heading(rest, Kind::Bits, Wanted::Bits)?;
     let (bits, rest) = bits(alloc, text, rest)?;
     let (ends, rest) = line_ends(alloc, rest, Wanted::NameOrEnd)?;
+    let (ring, rest) = ring_line(alloc, rest)?;
     let lines = lines(alloc, rest)?;
     check_claims(alloc, text, &lines)?;
     Ok(File {
@@ -92,6 +111,7 @@ fn file(alloc: Global, text: &[u8], tokens: &[Token]) -> Result<File, Fault>
         heading,
         bits,
         ends,
+        ring,
         lines,
     })
 }

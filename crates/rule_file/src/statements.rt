@@ -126,6 +126,7 @@ pub fn statement<'a>(
     };
     match first.kind {
         Kind::Bits => Err(Fault::SecondBits(*first)),
+        Kind::Ring => Err(Fault::LateRing(*first)),
         Kind::Allowed => allowed(tokens),
         Kind::Table => {
             let (heading, rest) = heading(tokens, Kind::Table, Wanted::Statement)?;

@@ -16,6 +16,7 @@ pub enum Kind {
     LineEnd,
     Name,
     Bits,
+    Ring,
     Allowed,
     Table,
     Never,
@@ -72,8 +73,9 @@ fn stage_behind(stage: Stage, kind: Kind) -> Stage {
 }
 
 // The words that mean something in a rule file.
-const WORDS: [(&[u8], Kind); 12] = [
+const WORDS: [(&[u8], Kind); 13] = [
     (b"bits", Kind::Bits),
+    (b"ring", Kind::Ring),
     (b"allowed", Kind::Allowed),
     (b"table", Kind::Table),
     (b"never", Kind::Never),

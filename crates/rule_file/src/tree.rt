@@ -108,13 +108,22 @@ pub struct Line {
     pub ends: Vec<Token>,
 }
 
-/// A file: the ends of lines before its first line, that first line with the names of the bits, and the lines below it.
+/// The line `ring:` and the ends of lines behind it. It says that the modules stand in a ring.
+#[derive(Drop)]
+pub struct RingLine {
+    pub heading: Heading,
+    pub ends: Vec<Token>,
+}
+
+/// A file: the ends of lines before its first line, that first line with the names of the bits, right behind it the line `ring:` if it has one, and the
+/// lines below.
 #[derive(Drop)]
 pub struct File {
     pub front: Vec<Token>,
     pub heading: Heading,
     pub bits: Vec<Token>,
     pub ends: Vec<Token>,
+    pub ring: Option<RingLine>,
     pub lines: Vec<Line>,
 }
 

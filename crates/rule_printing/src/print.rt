@@ -167,6 +167,9 @@ pub fn print(alloc: Global, text: &str, file: &File) -> Result<String, Unprintab
         put(&mut out, text, *name)?;
     }
     out.push_str("\n")?;
+    if file.ring.is_some() {
+        out.push_str("ring:\n")?;
+    }
     for line in &file.lines {
         put_statement(&mut out, text, &line.statement)?;
     }

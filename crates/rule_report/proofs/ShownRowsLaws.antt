@@ -4,6 +4,7 @@ use Rattle.std.specs.Global.{Global}
 use Rattle.std.proofs.lemmas.List.{length-append, length-map, map-append, take_more, get_or-map, length-take-le}
 use Rattle.std.proofs.lemmas.Option.{slice_get-map}
 use Rattle.words.specs.Words.{Word}
+use Rattle.display.specs.declared.ends.Ends.TheVariants.{Hidden}
 use Rattle.display.specs.Marks.{shown}
 use Rattle.diagram.specs.Rows.{IsLastRow}
 use Rattle.diagram.specs.declared.history.History.{History}
@@ -51,18 +52,18 @@ follows_more r w n old new columns next f l stepped pushed modules =
     }
 
 rows_shown-append : (names : List (List ℕ)) (ws : List Word) (w : Word) (t u : ℕ) → u ≡ t + length ws
-    → rows_shown names t (ws ++ w ∷ []) ≡ rows_shown names t ws ++ (step_line u ++ shown false names w)
+    → rows_shown names t (ws ++ w ∷ []) ≡ rows_shown names t ws ++ (step_line u ++ shown Hidden names w)
 rows_shown-append names [] w t u at =
     let same : u ≡ t = omega arith in
-    rw same (ap (λ (x : List ℕ). step_line t ++ x) (append-nil (shown false names w)))
+    rw same (ap (λ (x : List ℕ). step_line t ++ x) (append-nil (shown Hidden names w)))
 rows_shown-append names (v ∷ ws) w t u at =
-    ap (λ (x : List ℕ). step_line t ++ (shown false names v ++ x)) (rows_shown-append names ws w (suc t) u (omega arith))
-    ∙ ap (λ (x : List ℕ). step_line t ++ x) (sym (append_assoc (shown false names v) (rows_shown names (suc t) ws) (step_line u ++ shown false names w)))
-    ∙ sym (append_assoc (step_line t) (shown false names v ++ rows_shown names (suc t) ws) (step_line u ++ shown false names w))
+    ap (λ (x : List ℕ). step_line t ++ (shown Hidden names v ++ x)) (rows_shown-append names ws w (suc t) u (omega arith))
+    ∙ ap (λ (x : List ℕ). step_line t ++ x) (sym (append_assoc (shown Hidden names v) (rows_shown names (suc t) ws) (step_line u ++ shown Hidden names w)))
+    ∙ sym (append_assoc (step_line t) (shown Hidden names v ++ rows_shown names (suc t) ws) (step_line u ++ shown Hidden names w))
 
 -- what is shown of the first rows, and of one more
 pub rows_shown-more : (names : List (List ℕ)) (rows : List (Vec ℕ Global)) (i : ℕ) (row : Vec ℕ Global) → i < length rows → row ≡ get_or rows i row
-    → rows_shown names 0 (take i (map (λ v. v.items) rows)) ++ (step_line i ++ shown false names row.items) ≡ rows_shown names 0 (take (i + 1) (map (λ v. v.items) rows))
+    → rows_shown names 0 (take i (map (λ v. v.items) rows)) ++ (step_line i ++ shown Hidden names row.items) ≡ rows_shown names 0 (take (i + 1) (map (λ v. v.items) rows))
 rows_shown-more names rows i row within read =
     let items : Vec ℕ Global → Word = λ v. v.items in
     let size : i < length (map items rows) = rw (length-map rows items) within in

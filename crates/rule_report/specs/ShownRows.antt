@@ -2,6 +2,7 @@
 use Rattle.std.specs.Prelude.{◌≡◌, ℕ, zero, suc, ◌==◌, false, List, [], ◌∷◌, ◌++◌, length, map, codes, if◌then◌else◌}
 use Rattle.std.specs.Fmt.{decimal}
 use Rattle.words.specs.Words.{Word}
+use Rattle.display.specs.declared.ends.Ends.TheVariants.{Hidden}
 use Rattle.display.specs.Marks.{shown}
 use Rattle.diagram.specs.declared.history.History.{History}
 use Rattle.rules.specs.Property.{after}
@@ -32,7 +33,7 @@ step_line t = if t == 0 then [] else (codes "    after step " ++ (decimal t ++ c
 -- rows as rows of marks, the first of which is that after t steps
 abbrev pub rows_shown : List (List ℕ) → ℕ → List Word → List ℕ
 rows_shown names t [] = []
-rows_shown names t (w ∷ ws) = step_line t ++ (shown false names w ++ rows_shown names (suc t) ws)
+rows_shown names t (w ∷ ws) = step_line t ++ (shown Hidden names w ++ rows_shown names (suc t) ws)
 
 -- the name of the picture with that title that shows what is called so
 abbrev pub picture_name : List ℕ → List ℕ → List ℕ

@@ -4,6 +4,7 @@ ghost use Rattle.rule_report.specs.ShownRows.{Follows, picture_name, rows_of, ro
 
 use diagram::history::History;
 use diagram::svg::{Diagram, svg};
+use display::ends::Ends;
 use display::marks::Marks;
 use rule_source::source::Source;
 use simulate::row::step;
@@ -67,7 +68,7 @@ impl fmt::Display for Rows<'_, '_, '_> {
             let marks = Marks {
                 names: self.names,
                 word: row.as_slice(),
-                ends: false,
+                ends: Ends::Hidden,
             };
             write!(f, "{step}{marks}")?;
         }

@@ -62,6 +62,11 @@ filtered_item f xs i x old new h e a n = filtered_more f xs i x [] old new h a (
 pub all_push : {X : Type 0} (P : X → Type 0) (old new : List X) (x : X) → new ≡ old ++ x ∷ [] → P x → All P old → All P new
 all_push P old new x n p a = subst (λ t. All P t) (sym n) (All-push P old x a p)
 
+-- of no element it need hold
+pub all_none : {X : Type 0} (P : X → Type 0) (xs : List X) → xs ≡ [] → All P xs
+all_none P [] e = λ k d h. let z : ⊥ = omega arith in absurd z
+all_none P (x ∷ xs) e = let z : ⊥ = cc in absurd z
+
 -- a place of a list, read
 pub place_of : {X Z : Type 0} (f : X → Z) (xs ys : List X) (j : ℕ) (d : X) (z : Z) → ys ≡ xs → j < length xs → f (get_or ys j d) ≡ z → slice_get (map f xs) j ≡ Some z
 place_of f xs ys j d z q h e = slice_get-map f xs j ∙ ap (λ o. option_map f o) (slice_get-get_or xs j d h) ∙ ap Some (ap (λ t. f (get_or t j d)) (sym q) ∙ e)

@@ -1,5 +1,6 @@
--- Which modules patterns fit; the names of bits and sets; what patterns ask, formulas say and lines do; the given rows; what a file claims.
+-- Which modules patterns fit; how the modules lie; the names of bits and sets; what patterns ask, formulas say and lines do; the given rows; what a file claims.
 pub mod Clash
+pub mod Layouts
 pub mod Names
 pub mod Patterns
 pub mod Formulas

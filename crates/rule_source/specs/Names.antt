@@ -11,6 +11,6 @@ number_of (v ∷ vs) w = cond (bytes_eq v w) 0 (suc (number_of vs w))
 abbrev pub names_after : List (List ℕ) → List (List ℕ)
 names_after names = map (λ n. n ++ codes "'") names
 
--- the bits of the row, the row itself, the bits of the row after
-abbrev pub set_names : List (List ℕ) → List (List ℕ)
-set_names names = names ++ codes "row" ∷ [] ++ names_after names
+-- the bits of the row, the set of all places, the bits of the row after
+abbrev pub set_names : List ℕ → List (List ℕ) → List (List ℕ)
+set_names places names = names ++ places ∷ [] ++ names_after names

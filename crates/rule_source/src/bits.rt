@@ -1,10 +1,13 @@
-// The bits of a file's modules, by their names: a bit's number is the place of its name.
+// The bits of a file's modules, by their names: a bit's number is the place of its name. With them stands how the modules lie, since the set of all places is
+// called by that, and patterns and formulas are read by it.
 ghost use Rattle.std.specs.Prelude.{◌≡◌, ◌≢◌, ◌<◌, ◌≤◌, All, length, map, take, slice_get, IfOk, OnErr};
 ghost use Rattle.std.specs.String.{string_bytes};
 ghost use Rattle.rule_file.specs.Claims.{bytes_of};
+ghost use Rattle.rule_source.specs.Layouts.{places_of};
 ghost use Rattle.rule_source.specs.Names.{names_after, number_of, set_names};
 
 use crate::fault::Fault;
+use rows::rule::Layout;
 use rule_file::names::bytes;
 use rule_file::token::Token;
 use std::alloc::{AllocError, Global};
@@ -13,13 +16,24 @@ use std::str::from_utf8;
 /// So many bits a module of a file has at most.
 pub const MOST_BITS: usize = 5;
 
-/// A text, and the names of the bits that it declares, one to five.
+/// A text, the names of the bits that it declares, one to five, and how the modules lie.
 #[derive(Drop)]
 pub struct Bits<'t> {
     pub text: &'t str,
+    pub layout: Layout,
     pub names: Vec<&'t str>,
     pub ghost some: { 1 ≤ length names.items },
     pub ghost few: { length names.items ≤ 5 },
+}
+
+/// What claims call the set of all places of a row whose modules lie so.
+pub fn places_of(layout: Layout) -> &'static str
+    ensures { result.now ≡ places_of layout }
+{
+    match layout {
+        Layout::Line => "row",
+        Layout::Ring => "ring",
+    }
 }
 
 /// The words of a token. Fails where they are no text.
@@ -33,8 +47,14 @@ pub fn word<'t>(text: &'t str, token: Token) -> Result<&'t str, Fault>
 }
 
 impl<'t> Bits<'t> {
-    /// The bits with those names. Fails where there are none or more than five, and for memory.
-    pub fn new(alloc: Global, text: &'t str, tokens: &[Token]) -> Result<Bits<'t>, Fault>
+    /// The bits with those names, of modules that lie so. Fails where there are none or more than five, and for memory.
+    pub fn new(
+        alloc: Global,
+        text: &'t str,
+        layout: Layout,
+        tokens: &[Token],
+    ) -> Result<Bits<'t>, Fault>
+        ensures layout { IfOk result (λ b. b.layout ≡ layout) }
         ensures text { IfOk result (λ b. b.text.now ≡ text.now) }
         ensures names { IfOk result (λ b. map (λ n. n.now) b.names.items ≡ map (λ t. bytes_of text.now t) tokens.now) }
     {
@@ -48,7 +68,11 @@ impl<'t> Bits<'t> {
         if names.is_empty() {
             return Err(Fault::NoBits);
         }
-        Ok(Bits { text, names })
+        Ok(Bits {
+            text,
+            layout,
+            names,
+        })
     }
 
     /// How many bits a module has.
@@ -101,12 +125,12 @@ impl<'t> Bits<'t> {
         Ok(all)
     }
 
-    /// The names of the sets that claims speak of, by their numbers: the bits, `row`, and the bits of the row after, each with `'` behind it.
+    /// The names of the sets that claims speak of, by their numbers: the bits, the set of all places, and the bits of the row after, each with `'` behind it.
     pub fn set_names(&self, alloc: Global) -> Result<Vec<String>, AllocError>
-        ensures { IfOk result (λ all. map (λ s. string_bytes s) all.items ≡ set_names (map (λ n. n.now) self.now.names.items)) }
+        ensures { IfOk result (λ all. map (λ s. string_bytes s) all.items ≡ set_names (places_of self.now.layout) (map (λ n. n.now) self.now.names.items)) }
     {
         let mut all = self.names_now(alloc)?;
-        all.push(String::from_str(alloc, "row")?)?;
+        all.push(String::from_str(alloc, places_of(self.layout))?)?;
         let mut after = self.names_after(alloc)?;
         all.append(&mut after)?;
         Ok(all)

@@ -1,6 +1,6 @@
 // Formulas of a rule file. A formula stands in the readable form of claims and is about the row with its ends: the bits' names are sets of places, `row` is
-// the set of the row's places, `last` is the last of these, and a name with `'` behind it is that bit of the row after one step. It is read as that form is:
-// behind lines that declare the bits, then the row, then the bits after the step. So the numbers of the sets are those of the bits, then the row's, then
+// the set of the row's places, `last` is the last of these, and a name with `'` behind it is that bit of the row after one step. Of modules in a ring it is
+// about the ring, whose places are the set `ring`. It is read as that form is: behind lines that declare the bits, then the row, then the bits after the step. So the numbers of the sets are those of the bits, then the row's, then
 // those of the bits after.
 ghost use Rattle.std.specs.Prelude.{◌≡◌, ◌++◌, ◌↔◌, IfOk, IfSome, codes, map, string_bytes};
 ghost use Rattle.std.specs.Bool.{OnTrue};
@@ -8,20 +8,22 @@ ghost use Rattle.formulas.specs.Meaning.{Env, Meaning};
 ghost use Rattle.resolve.specs.Asks.{all_hold};
 ghost use Rattle.resolve.specs.Says.{text as text_of};
 ghost use Rattle.rule_file.specs.Claims.{bytes_of};
-ghost use Rattle.rule_source.specs.Formulas.{AreOne, FormulaOf, IsRow, before, declaration};
+ghost use Rattle.rule_source.specs.Formulas.{AreOne, EndsAs, FormulaOf, IsRow, before, declaration};
+ghost use Rattle.rule_source.specs.Layouts.{places_line};
 ghost use Rattle.syntax.specs.Reads.{IsReadAs};
 
-use crate::bits::{Bits, word};
+use crate::bits::{Bits, places_of, word};
 use crate::fault::Fault;
 use formulas::formula::Formula;
 use resolve::asked::{Stated, ask};
+use rows::rule::Layout;
 use rule_file::token::Token;
 use std::alloc::{AllocError, Global};
 use syntax::parse::read;
 use tokens::kind::Kind;
 use tokens::token::tokens;
 use trees::position::Span;
-use trees::tree::{Item, Name, Row, Sort};
+use trees::tree::{Ends, Item, Name, Row, Sort};
 
 /// What a formula speaks of.
 #[derive(Clone, Copy, Debug, PartialEq, Eq)]
@@ -40,21 +42,33 @@ fn declaration(alloc: Global, names: &[String]) -> Result<String, AllocError>
     format!(in alloc; "var2 {names};\n")
 }
 
-// The lines before a formula: the names of the bits, the row, and where it speaks of the row after the names of that row's bits.
+// The line that says that a text is about a row, or about a ring.
+fn places_line(layout: Layout) -> &'static str
+    ensures { result.now ≡ places_line layout }
+{
+    match layout {
+        Layout::Line => "rows;\n",
+        Layout::Ring => "rings;\n",
+    }
+}
+
+// The lines before a formula: the names of the bits, the row or the ring, and where it speaks of the row after the names of that row's bits.
 fn before(
     alloc: Global,
+    layout: Layout,
     about: About,
     now: &[String],
     after: &[String],
 ) -> Result<String, AllocError>
-    ensures { IfOk result (λ s. string_bytes s ≡ before about (map (λ n. string_bytes n) now.now) (map (λ n. string_bytes n) after.now)) }
+    ensures { IfOk result (λ s. string_bytes s ≡ before layout about (map (λ n. string_bytes n) now.now) (map (λ n. string_bytes n) after.now)) }
 {
     let now = declaration(alloc, now)?;
+    let places = places_line(layout);
     match about {
-        About::Row => format!(in alloc; "{now}rows;\n"),
+        About::Row => format!(in alloc; "{now}{places}"),
         About::Step => {
             let after = declaration(alloc, after)?;
-            format!(in alloc; "{now}rows;\n{after}")
+            format!(in alloc; "{now}{places}{after}")
         }
     }
 }
@@ -152,17 +166,28 @@ fn are_named(sets: &[Name], names: &[String]) -> bool
     set.text == *name && are_named(others, more)
 }
 
-// Whether the row's places are called `row`, and its last place `last`.
-fn is_row(row: &Row) -> bool
-    ensures { OnTrue result (IsRow row.now) }
+// Whether places end as those of a row do, with the last one called `last`, or go round as a ring's do.
+fn end_as(layout: Layout, ends: &Ends) -> bool
+    ensures { OnTrue result (EndsAs layout ends.now) }
 {
-    row.places.text.as_str() == "row" && row.last.text.as_str() == "last"
+    match (layout, ends) {
+        (Layout::Line, Ends::Last(last)) => last.text.as_str() == "last",
+        (Layout::Ring, Ends::Round) => true,
+        _ => false,
+    }
+}
+
+// Whether the places are those of a row, or of a ring, by name and by their ends.
+fn is_row(layout: Layout, row: &Row) -> bool
+    ensures { OnTrue result (IsRow layout row.now) }
+{
+    row.places.text.as_str() == places_of(layout) && end_as(layout, &row.ends)
 }
 
 // Whether the items are the bits, the row, the bits after the step where a formula speaks of these, and one formula. They are tested, since reading promises
 // the items of some tokens that cover the text, and not that a line of names has the tokens that it seems to have.
-fn are_one(about: About, items: &[Item], now: &[String], after: &[String]) -> bool
-    ensures { OnTrue result (AreOne about items.now (map (λ n. string_bytes n) now.now) (map (λ n. string_bytes n) after.now)) }
+fn are_one(layout: Layout, about: About, items: &[Item], now: &[String], after: &[String]) -> bool
+    ensures { OnTrue result (AreOne layout about items.now (map (λ n. string_bytes n) now.now) (map (λ n. string_bytes n) after.now)) }
 {
     match (about, items) {
         (
@@ -172,7 +197,7 @@ fn are_one(about: About, items: &[Item], now: &[String], after: &[String]) -> bo
                 Item::Row(row),
                 Item::Formula(_),
             ],
-        ) => are_named(bits, now) && is_row(row),
+        ) => are_named(bits, now) && is_row(layout, row),
         (
             About::Step,
             [
@@ -181,7 +206,7 @@ fn are_one(about: About, items: &[Item], now: &[String], after: &[String]) -> bo
                 Item::Free(Sort::Set, next),
                 Item::Formula(_),
             ],
-        ) => are_named(bits, now) && is_row(row) && are_named(next, after),
+        ) => are_named(bits, now) && is_row(layout, row) && are_named(next, after),
         _ => false,
     }
 }
@@ -224,11 +249,12 @@ pub fn formula_of(
 {
     let now = bits.names_now(alloc)?;
     let after = bits.names_after(alloc)?;
-    let lines = before(alloc, about, &now, &after)?;
+    let layout = bits.layout;
+    let lines = before(alloc, layout, about, &now, &after)?;
     let composed = compose(bits, lines, formula)?;
     check_one(alloc, &composed)?;
     let items = items_of(alloc, &composed)?;
-    if are_one(about, &items, &now, &after) {
+    if are_one(layout, about, &items, &now, &after) {
         if let Some(read) = claimed_in(alloc, &composed, &items)? {
             return Ok(read);
         }

@@ -1,7 +1,8 @@
 // Lines of the table: when a line counts, and what it does.
-ghost use Rattle.std.specs.Prelude.{◌≡◌, ◌++◌, ◌≤◌, IfOk, OnOk, length, map};
+ghost use Rattle.std.specs.Prelude.{◌≡◌, ◌++◌, ◌≤◌, All, IfOk, OnOk, length, map};
 ghost use Rattle.std.specs.List.{range_with_len};
 ghost use Rattle.std.specs.Option.{option_to_list};
+ghost use Rattle.rule_source.specs.Clash.{CanAsk};
 ghost use Rattle.rule_source.specs.Effects.{AreApart, as_was, bit_after, changed as changed_by, changes, line_in, moves as moves_by, said as said_in, value as value_in};
 
 use crate::bits::Bits;
@@ -110,11 +111,12 @@ pub fn line_of(
     effects: &Effects,
 ) -> Result<Line, Fault>
     ensures line { IfOk result (λ l. l ≡ line_in bits.now when.now effects.now) }
+    ensures can { IfOk result (λ l. All (CanAsk bits.now.layout) l.when) }
     ensures apart { OnOk result (AreApart bits.now effects.now) }
 {
     let when = literals_of(alloc, bits, when)?;
     for (line, place) in earlier {
-        if covers(line.when(), &when) {
+        if covers(bits.layout, line.when(), &when) {
             return Err(Fault::Unreached(span, *place));
         }
     }

@@ -1,6 +1,7 @@
 // Patterns: what the words of a pattern ask of a module and its neighbours.
-ghost use Rattle.std.specs.Prelude.{◌≡◌, ◌++◌, [], IfOk, OnOk};
+ghost use Rattle.std.specs.Prelude.{◌≡◌, ◌++◌, [], All, IfOk, OnOk};
 ghost use Rattle.std.specs.List.{cons_option};
+ghost use Rattle.rule_source.specs.Clash.{CanAsk};
 ghost use Rattle.rule_source.specs.Patterns.{literal_of, literals_in, part_literals};
 
 use crate::bits::Bits;
@@ -26,16 +27,18 @@ fn literal(bits: &Bits<'_>, side: Side, term: &Term) -> Result<Option<Literal>, 
 }
 
 // Puts what one word asks behind what the words before it ask.
+#[tactic(auto, using(crate::proofs::NamesLaws::all_push))]
 fn push_term(
     bits: &Bits<'_>,
     side: Side,
     term: &Term,
     literals: &mut Vec<Literal>,
 ) -> Result<(), Fault>
-    ensures { OnOk result (literals.new.items ≡ literals.old.items ++ cons_option (literal_of bits.now side term.now) []) }
+    ensures words { OnOk result (literals.new.items ≡ literals.old.items ++ cons_option (literal_of bits.now side term.now) []) }
+    ensures can { OnOk result (All (CanAsk bits.now.layout) literals.old.items → All (CanAsk bits.now.layout) literals.new.items) }
 {
     if let Some(literal) = literal(bits, side, term)? {
-        if clashes(literals, literal) {
+        if clashes(bits.layout, literals, literal) {
             return Err(Fault::Unfit(term.span()));
         }
         literals.push(literal)?;
@@ -50,7 +53,8 @@ fn push_part(
     part: &[Term],
     literals: &mut Vec<Literal>,
 ) -> Result<(), Fault>
-    ensures { OnOk result (literals.new.items ≡ literals.old.items ++ part_literals bits.now side part.now) }
+    ensures words { OnOk result (literals.new.items ≡ literals.old.items ++ part_literals bits.now side part.now) }
+    ensures can { OnOk result (All (CanAsk bits.now.layout) literals.old.items → All (CanAsk bits.now.layout) literals.new.items) }
 {
     for term in part {
         push_term(bits, side, term, literals)?;
@@ -58,13 +62,14 @@ fn push_part(
     Ok(())
 }
 
-/// What a pattern asks, from its left part to its right. Fails where a name is no bit's, where nothing could fit, and for memory.
+/// What a pattern asks, from its left part to its right; not that none stands where one always does. Fails where a name is no bit's, where nothing could fit, and for memory.
 pub fn literals_of(
     alloc: Global,
     bits: &Bits<'_>,
     pattern: &rule_file::tree::Pattern,
 ) -> Result<Vec<Literal>, Fault>
-    ensures { IfOk result (λ ls. ls.items ≡ literals_in bits.now pattern.now) }
+    ensures words { IfOk result (λ ls. ls.items ≡ literals_in bits.now pattern.now) }
+    ensures can { IfOk result (λ ls. All (CanAsk bits.now.layout) ls.items) }
 {
     let mut literals = Vec::new(alloc);
     push_part(bits, Side::Left, &pattern.left, &mut literals)?;
@@ -79,7 +84,8 @@ pub fn pattern_of(
     bits: &Bits<'_>,
     pattern: &rule_file::tree::Pattern,
 ) -> Result<Pattern, Fault>
-    ensures { IfOk result (λ p. p ≡ literals_in bits.now pattern.now) }
+    ensures words { IfOk result (λ p. p ≡ literals_in bits.now pattern.now) }
+    ensures can { IfOk result (λ p. All (CanAsk bits.now.layout) p) }
 {
     Ok(Pattern::new(literals_of(alloc, bits, pattern)?))
 }

@@ -9,6 +9,7 @@ ghost use Rattle.rule_file.specs.declared.tree.Module.{Module};
 ghost use Rattle.rule_source.specs.Effects.{AllNameOnce, NamesOnce, line_by, table_in};
 ghost use Rattle.rule_source.specs.Formulas.{AreLimits, FormulaOf, limit_of};
 ghost use Rattle.rule_source.specs.Given.{AreRows, IsRow, row_by};
+ghost use Rattle.rule_source.specs.Layouts.{layout_of};
 ghost use Rattle.rule_source.specs.Patterns.{allowed_by, allowed_in};
 ghost use Rattle.rule_source.specs.declared.formula.About.TheVariants.{Row};
 
@@ -20,6 +21,7 @@ use crate::lines::line_of;
 use crate::pattern::pattern_of;
 use formulas::formula::Formula;
 use rows::line::{Line, Pattern};
+use rows::rule::Layout;
 use rule_file::parse::read;
 use rule_file::tree::{File, Statement};
 use rules::rule::Rule;
@@ -54,6 +56,16 @@ pub fn statement_span(statement: &Statement) -> Span {
         Statement::Allowed(heading) | Statement::Table(heading) | Statement::Row(heading, _) => {
             heading.word.span
         }
+    }
+}
+
+// How the modules of a file lie: in a ring where it says so, else in a line.
+fn layout_of(file: &File) -> Layout
+    ensures { result ≡ layout_of file.now.ring }
+{
+    match file.ring {
+        None => Layout::Line,
+        Some(_) => Layout::Ring,
     }
 }
 
@@ -125,6 +137,7 @@ fn reading_of(
 // The rule of what was read, and the given rows.
 fn made(alloc: Global, bits: &Bits<'_>, reading: Reading) -> Result<(Rule, Vec<Given>), Fault>
     ensures bits { IfOk result (λ r. r.0.bits ≡ length bits.now.names.items) }
+    ensures layout { IfOk result (λ r. r.0.layout ≡ bits.now.layout) }
     ensures allowed { IfOk result (λ r. r.0.allowed ≡ reading.allowed) }
     ensures limits { IfOk result (λ r. r.0.limits ≡ reading.limits) }
     ensures table { IfOk result (λ r. r.0.table.items ≡ map (λ l. l.0) reading.table.items) }
@@ -135,7 +148,14 @@ fn made(alloc: Global, bits: &Bits<'_>, reading: Reading) -> Result<(Rule, Vec<G
         .into_iter()
         .map(|(line, _)| line)
         .collect(alloc)?;
-    let rule = Rule::new(alloc, bits.count(), reading.allowed, reading.limits, table)?;
+    let rule = Rule::new(
+        alloc,
+        bits.count(),
+        bits.layout,
+        reading.allowed,
+        reading.limits,
+        table,
+    )?;
     Ok((rule, reading.rows))
 }
 
@@ -146,6 +166,7 @@ pub fn rule_of(
     lines: &[rule_file::tree::Line],
 ) -> Result<Rule, Fault>
     ensures bits { IfOk result (λ r. r.bits ≡ length bits.now.names.items) }
+    ensures layout { IfOk result (λ r. r.layout ≡ bits.now.layout) }
     ensures patterns { IfOk result (λ r. r.allowed.items ≡ allowed_in bits.now lines.now) }
     ensures limits { IfOk result (λ r. AreLimits bits.now lines.now r.limits.items) }
     ensures lines { IfOk result (λ r. r.table.items ≡ table_in bits.now lines.now) }
@@ -161,7 +182,9 @@ pub fn source_of(alloc: Global, text: &str) -> Result<Source<'_>, Fault>
     ensures file { IfOk result (λ s. Covers text.now 0 (file_tokens s.file) (length text.now)) }
     ensures text { IfOk result (λ s. s.bits.text.now ≡ text.now) }
     ensures names { IfOk result (λ s. map (λ n. n.now) s.bits.names.items ≡ map (λ t. bytes_of text.now t) s.file.bits.items) }
+    ensures layout { IfOk result (λ s. s.bits.layout ≡ layout_of s.file.ring) }
     ensures bits { IfOk result (λ s. s.rule.bits ≡ length s.bits.names.items) }
+    ensures ring { IfOk result (λ s. s.rule.layout ≡ s.bits.layout) }
     ensures patterns { IfOk result (λ s. s.rule.allowed.items ≡ allowed_in s.bits s.file.lines.items) }
     ensures limits { IfOk result (λ s. AreLimits s.bits s.file.lines.items s.rule.limits.items) }
     ensures lines { IfOk result (λ s. s.rule.table.items ≡ table_in s.bits s.file.lines.items) }
@@ -169,7 +192,7 @@ pub fn source_of(alloc: Global, text: &str) -> Result<Source<'_>, Fault>
     ensures rows { IfOk result (λ s. AreRows s.bits s.file.lines.items s.rows.items) }
 {
     let file = read(alloc, text)?;
-    let bits = Bits::new(alloc, text, &file.bits)?;
+    let bits = Bits::new(alloc, text, layout_of(&file), &file.bits)?;
     let (rule, rows) = made(alloc, &bits, reading_of(alloc, &bits, &file.lines)?)?;
     Ok(Source {
         bits,

@@ -67,6 +67,34 @@ fn faults_are_told(rt: HostRuntime) -> Result<(), Fail> {
             "2:1: expected one line `bits:`, found a second one",
         ),
         (
+            "ring:\nbits: a",
+            "1:1: expected `bits:` with the names of a module's bits, found the word `ring`",
+        ),
+        (
+            "bits: a ring",
+            "1:9: expected a name or the end of the line, found the word `ring`",
+        ),
+        (
+            "bits: a\nring\n",
+            "2:5: expected `:`, found the end of the line",
+        ),
+        (
+            "bits: a\nring: a",
+            "2:7: expected the end of the line, found `a`",
+        ),
+        (
+            "bits: a\nring:\n\nring:",
+            "4:1: expected `ring:` right behind the line `bits:`, and once; found it further on",
+        ),
+        (
+            "bits: a\nallowed:\n  ring:",
+            "3:3: expected `ring:` right behind the line `bits:`, and once; found it further on",
+        ),
+        (
+            "bits: a\nnever ring: a|a|a",
+            "2:7: expected a name, found the word `ring`",
+        ),
+        (
             "bits: a\ntable: garbage",
             "2:8: expected the end of the line, found `garbage`",
         ),
@@ -172,6 +200,17 @@ fn files_are_printed(rt: HostRuntime) -> Result<(), Fail> {
     Ok(())
 }
 
+#[test]
+fn rings_are_printed(rt: HostRuntime) -> Result<(), Fail> {
+    let text = "bits: a # one\n\n ring : # a loop\n\nallowed:\n*|a|*";
+    let want = "bits: a\nring:\n\nallowed:\n  * | a | *\n";
+    let printed = said(rt.alloc(), text)?;
+    assert_eq!(rt; printed.as_str(), want);
+    let again = said(rt.alloc(), printed.as_str())?;
+    assert_eq!(rt; again.as_str(), want);
+    Ok(())
+}
+
 // The words of a text, without the ends of lines: the kind and the bytes of each.
 fn same_words(alloc: Global, first: &str, second: &str) -> Result<bool, Fail> {
     let ours = tokens(alloc, first.as_bytes())?;
@@ -217,6 +256,7 @@ fn examples_are_read_again(rt: HostRuntime) -> Result<(), Fail> {
         "# The rule of 2022. A row is built of sections of seven modules, with couplings of three between them; `drive` and `brake` say which module\n# is which. Above the row runs another line: a module takes a tray from it, sends its tray up to it, or waits.\nbits: tray drive brake\n\nallowed:\n  !drive !brake | drive !brake | drive !brake\n  drive !brake | drive !brake | drive brake\n  drive !brake | drive brake | drive brake\n  drive brake | drive brake | !drive brake\n  drive brake | !drive brake | !drive brake\n  !drive brake | !drive brake | drive !brake\n  !drive brake | drive !brake | !drive !brake\n  drive !brake | !drive !brake | drive brake\n  module !drive !brake | drive brake | module !drive !brake\n  drive brake | !drive !brake | drive !brake\n\ntable:\n  tray | !tray | tray -> waits\n  * | !tray | * -> tray moves\n  tray | tray | tray -> !tray moves\n  module !tray | tray | module !tray -> !tray moves\n  none | tray | tray -> !tray moves\n  tray | tray | none -> !tray moves\n  * | * | * -> waits\n\nnever tray_between_gaps: module !tray | tray | module !tray\n",
         "# The rule of 2022 with the fault mended: of two trays that wait for one another the one before the gap goes up first.\nbits: tray drive brake\n\nallowed:\n  !drive !brake | drive !brake | drive !brake\n  drive !brake | drive !brake | drive brake\n  drive !brake | drive brake | drive brake\n  drive brake | drive brake | !drive brake\n  drive brake | !drive brake | !drive brake\n  !drive brake | !drive brake | drive !brake\n  !drive brake | drive !brake | !drive !brake\n  drive !brake | !drive !brake | drive brake\n  module !drive !brake | drive brake | module !drive !brake\n  drive brake | !drive !brake | drive !brake\n\ntable:\n  tray | !tray | tray -> waits\n  * | !tray | * -> tray moves\n  tray | tray | tray -> !tray moves\n  module !tray | tray | module !tray -> !tray moves\n  none | tray | tray -> !tray moves\n  tray | tray | none -> !tray moves\n  tray | tray | module !tray -> !tray moves\n  * | * | * -> waits\n",
         "# A slow section and a fast one: a slow module keeps each tray for a step before it passes it on.\nbits: tray slow done\n\nallowed:\n  * | !slow !done | *\n  * | slow tray | *\n  * | slow !tray !done | *\n\ntable:\n  * | tray slow !done | * -> done moves\n  * | tray | none -> !tray !done moves\n  * | tray | !tray -> !tray !done moves\n  tray !slow | !tray | * -> tray moves\n  tray slow done | !tray | * -> tray moves\n  none | !tray | * -> tray moves\n  * | * | * -> waits\n\nrow: tray . tray+slow slow slow .\n",
+        "# A carousel.\nbits: bag drive\nring:\n\nallowed:\n  * | !bag !drive | *\n  * | !bag drive | !bag\n  !bag | bag !drive | *\nallowed: |ring| mod 4 = 0\nallowed: |bag| mod 3 = 0\n\ntable:\n  * | bag | drive -> !bag moves\n  bag | drive | * -> bag !drive moves\n  * | drive | * -> moves\n  * | !bag | !bag -> drive moves\n  * | * | * -> waits\n\nnever bags_touch: * | bag | bag\nclaim no_bag_lost: all1 p: p in bag => p in bag' | p + 1 in bag'\n\nrow: bag . drive bag . bag . drive\n",
     ];
     for text in examples {
         assert_eq!(rt; wrong(rt.alloc(), text)?, None, "at {text}");

@@ -10,4 +10,6 @@ mod first_row;
 #[cfg(test)]
 mod random_files;
 #[cfg(test)]
+mod rings;
+#[cfg(test)]
 mod source;

@@ -90,6 +90,7 @@ impl Dice {
     fn put_file(&mut self, out: &mut String) -> Result<(), Fail> {
         out.push_str(self.pick(&["", "\n# rules\n"]))?;
         out.push_str("bits: a b\tc _d9\n")?;
+        out.push_str(self.pick(&["", "ring:\n", "\n ring :# a loop\n"]))?;
         out.push_str(self.pick(&["allowed:\n", "allowed :# patterns\n"]))?;
         for number in 0..6u32 {
             self.put_line(out, false, number)?;

@@ -17,8 +17,8 @@ use Rattle.trees.specs.declared.tree.Quantifier.{Quantifier}
 use Rattle.trees.specs.declared.tree.Quantifier.TheVariants as quantifier
 use Rattle.syntax.specs.Plain.{Plain, yes, no, nowhere, number, digits, named, paren, listed, prefixed, joined, bound, call, counted, tallied, Plains, none, more, sign_of, quantifier_of, mod_bytes, tally, names, names_more, written, list_more, close}
 use Rattle.syntax.specs.Parsing.{right_of, MOST}
-use Rattle.syntax.specs.Rows.{rows_name, is_rows}
-use Rattle.syntax.specs.Items.{PlainItem, free, row, predicate, assumed, claimed, sort_word, parameters, parameters_more, written_item, written_items}
+use Rattle.syntax.specs.Rows.{rows_name, rings_name, is_rows}
+use Rattle.syntax.specs.Items.{PlainItem, free, row, ring, predicate, assumed, claimed, sort_word, parameters, parameters_more, written_item, written_items}
 use Rattle.syntax.specs.Printed.{left_of, enclosed, within_parens, text, texts, IsTree, AreTrees, text_item, IsTreeItem, AreTreeItems}
 
 -- words that are alone if their names are
@@ -227,6 +227,7 @@ parameters_go (p ∷ ps) rest q = sort_goes p.0 _ (name_goes p.1 _ (parameters_m
 item_goes : (i : PlainItem) (all : Bool) (rest : List Word) → IsTreeItem i → Goes rest → Goes (written_item (text_item all i) rest)
 item_goes (free sort xs) all rest x q = sort_goes sort _ (names_go xs _ (semicolon_goes rest q))
 item_goes (row places last) all rest x q = name_goes rows_name _ (semicolon_goes rest q)
+item_goes (ring places) all rest x q = name_goes rings_name _ (semicolon_goes rest q)
 item_goes (predicate f ps t) all rest x q = predicate_goes _ (name_goes f _ (open_goes _ (parameters_go ps _ (close_goes _ (equal_goes _ (tree_goes t all _ x.2 (semicolon_goes rest q)))))))
 item_goes (assumed t) all rest x q = assert_goes _ (tree_goes t all _ x.0 (semicolon_goes rest q))
 item_goes (claimed t) all rest x q = enclosed_goes (is_rows t) (text all t) _ (λ ws r. tree_goes t all ws x.0 r) (semicolon_goes rest q)

@@ -10,9 +10,9 @@ use Rattle.tokens.specs.Words.{Word, word}
 use Rattle.syntax.specs.Plain.{Plain, number, prefixed, joined, bound, counted, sign_of, quantifier_of, colon, semicolon, close, names, written}
 use Rattle.syntax.specs.Parsing.{Reader, begins, parse}
 use Rattle.syntax.specs.Grammar.{bare, AreNames, IsText}
-use Rattle.syntax.specs.Rows.{is_rows}
-use Rattle.syntax.specs.Items.{PlainItem, free, row, predicate, assumed, claimed, sort_of, more_parameters, parameters_at, formula_at, claimed_at, other_at, row_or, item_at, more_read, read_words, sort_word, parameters, parameters_more, equal, written_item, written_items, bare_item, IsFormula, AreParameters, IsItem, AreItems}
-use Rattle.syntax.proofs.RowsLaws.{no_row}
+use Rattle.syntax.specs.Rows.{rings_words, behind_words, is_rows}
+use Rattle.syntax.specs.Items.{PlainItem, free, row, ring, predicate, assumed, claimed, sort_of, more_parameters, parameters_at, formula_at, claimed_at, other_at, the_row, the_ring, said_or, item_at, more_read, read_words, sort_word, parameters, parameters_more, equal, written_item, written_items, bare_item, IsFormula, AreParameters, IsItem, AreItems}
+use Rattle.syntax.proofs.RowsLaws.{no_row, no_ring}
 use Rattle.syntax.proofs.WrittenLaws.{longer, names_again, names_at_longer}
 use Rattle.syntax.proofs.RoundTrip.{read_again}
 
@@ -52,7 +52,10 @@ other_claimed p n (bound q sort xs t) rest x = quantifier_claimed p n q sort (na
 other_claimed p n _ rest x = refl
 
 is_claimed : (p : Reader) (n : ℕ) (t : Plain) (rest : List Word) → IsText t → is_rows t ≡ false → item_at p n (written t rest) ≡ claimed_at p (written t rest)
-is_claimed p n t rest x e = ap (λ o. row_or o (other_at p n (written t rest))) (no_row t rest x (inl e)) ∙ other_claimed p n t rest x
+is_claimed p n t rest x e =
+    let ws = written t rest in
+    ap (λ o. said_or the_row o (said_or the_ring (behind_words rings_words ws) (other_at p n ws))) (no_row t rest x (inl e))
+    ∙ ap (λ o. said_or the_ring o (other_at p n ws)) (no_ring t rest x (inl e)) ∙ other_claimed p n t rest x
 
 formula_again : (t : Plain) (n c : ℕ) (rest : List Word) → IsFormula t → c ≡ 2000 → length (written t (semicolon ∷ rest)) ≤ n → formula_at (parse n c) (written t (semicolon ∷ rest)) ≡ Ok (bare t, rest)
 formula_again t n c rest x e le = rw (read_again t n c (semicolon ∷ rest) x.0 (omega (arith, e, x.1)) x.2 (refl, refl) le) refl
@@ -95,6 +98,7 @@ parameters_again (p ∷ ps) n rest a le =
 longer_item : (i : PlainItem) (rest : List Word) → length rest < length (written_item i rest)
 longer_item (free sort xs) rest = let h = names_at_longer xs (semicolon ∷ rest) in omega arith
 longer_item (row places last) rest = omega arith
+longer_item (ring places) rest = omega arith
 longer_item (predicate f ps t) rest = let h = longer t (semicolon ∷ rest) in let i = parameters_at_longer ps (close ∷ equal ∷ written t (semicolon ∷ rest)) in omega arith
 longer_item (assumed t) rest = let h = longer t (semicolon ∷ rest) in omega arith
 longer_item (claimed t) rest = let h = longer t (semicolon ∷ rest) in omega arith
@@ -106,6 +110,7 @@ free_again Set p n xs rest x le = rw (names_again xs n (semicolon ∷ rest) x re
 item_again : (i : PlainItem) (n c : ℕ) (rest : List Word) → IsItem i → c ≡ 2000 → length (written_item i rest) ≤ n → item_at (parse n c) n (written_item i rest) ≡ Ok (bare_item i, rest)
 item_again (free sort xs) n c rest x e le = free_again sort (parse n c) n xs rest x (omega (arith, le))
 item_again (row places last) n c rest x e le = rw x.0 (rw x.1 refl)
+item_again (ring places) n c rest x e le = rw x refl
 item_again (predicate f ps t) n c rest x e le =
     let i = parameters_at_longer ps (close ∷ equal ∷ written t (semicolon ∷ rest)) in
     let ps_again = parameters_again ps n (equal ∷ written t (semicolon ∷ rest)) x.1 (omega (arith, le)) in
@@ -128,6 +133,7 @@ more_again (i ∷ is) n k c acc x e le lk =
 item_no_header : (i : PlainItem) (rest : List Word) → IsItem i → begins kind.Ws1s (written_item i rest) ≡ false
 item_no_header (free sort xs) rest x = sort_no_header sort (names xs (semicolon ∷ rest))
 item_no_header (row places last) rest x = refl
+item_no_header (ring places) rest x = refl
 item_no_header (predicate f ps t) rest x = refl
 item_no_header (assumed t) rest x = refl
 item_no_header (claimed t) rest x = no_header t (semicolon ∷ rest) x.0.0

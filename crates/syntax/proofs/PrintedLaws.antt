@@ -10,7 +10,7 @@ use Rattle.syntax.specs.Plain.{Plain, yes, no, nowhere, number, digits, named, p
 use Rattle.syntax.specs.Parsing.{level_of, right_of, value, depth, depths}
 use Rattle.syntax.specs.Grammar.{bare, bares, spine, grab, IsText, AreTexts, opens, opens_each}
 use Rattle.syntax.specs.Rows.{is_rows}
-use Rattle.syntax.specs.Items.{PlainItem, free, row, predicate, assumed, claimed, bare_item, IsItem, AreItems}
+use Rattle.syntax.specs.Items.{PlainItem, free, row, ring, predicate, assumed, claimed, bare_item, IsItem, AreItems}
 use Rattle.syntax.specs.Printed.{level, left_of, enclosed, within_parens, text, texts, IsTree, AreTrees, text_item, IsTreeItem, AreTreeItems}
 
 -- the numbers of an operator
@@ -245,7 +245,7 @@ rows_text (prefixed unary.Max t) all e = refl
 rows_text (prefixed unary.IsEmpty t) all e = refl
 rows_text _ all e = refl
 
--- what is claimed is not the name `rows` alone
+-- what is claimed is not the name `rows` or `rings` alone
 no_rows_text : (t : Plain) (all : Bool) → is_rows (enclosed (is_rows t) (text all t)) ≡ false
 no_rows_text t all = go (is_rows t) refl where
   go : (b : Bool) → is_rows t ≡ b → is_rows (enclosed b (text all t)) ≡ false
@@ -256,6 +256,7 @@ no_rows_text t all = go (is_rows t) refl where
 item_is : (i : PlainItem) (all : Bool) → IsTreeItem i → IsItem (text_item all i)
 item_is (free sort xs) all x = x
 item_is (row places last) all x = x
+item_is (ring places) all x = x
 item_is (predicate f ps t) all x = let o = opens_text t all x.2 in let e = ap depth (bare_text t all x.2) in (x.0, x.1, (is_text t all x.2, omega (arith, o, x.3), omega (arith, e, x.3)))
 item_is (assumed t) all x = let o = opens_text t all x.0 in let e = ap depth (bare_text t all x.0) in (is_text t all x.0, omega (arith, o, x.1), omega (arith, e, x.1))
 item_is (claimed t) all x =
@@ -268,6 +269,7 @@ item_is (claimed t) all x =
 bare_item_text : (i : PlainItem) (all : Bool) → IsTreeItem i → bare_item (text_item all i) ≡ i
 bare_item_text (free sort xs) all x = refl
 bare_item_text (row places last) all x = refl
+bare_item_text (ring places) all x = refl
 bare_item_text (predicate f ps t) all x = ap (predicate f ps) (bare_text t all x.2)
 bare_item_text (assumed t) all x = ap assumed (bare_text t all x.0)
 bare_item_text (claimed t) all x = ap claimed (bare_in (is_rows t) (text all t) ∙ bare_text t all x.0)

@@ -5,19 +5,23 @@ use Rattle.tokens.specs.declared.kind.Kind.TheVariants as kind
 use Rattle.trees.specs.declared.tree.Sort.{Sort}
 use Rattle.trees.specs.declared.tree.Sort.TheVariants.{Place, Set}
 use Rattle.trees.specs.declared.tree.Parameter.{Parameter}
+use Rattle.trees.specs.declared.tree.Row.{Row as Stands}
+use Rattle.trees.specs.declared.tree.Ends.{Ends}
+use Rattle.trees.specs.declared.tree.Ends.TheVariants.{Last, Round}
 use Rattle.trees.specs.declared.tree.Item.{Item}
 use Rattle.trees.specs.declared.tree.Item.TheVariants.{Free, Row, Predicate as Defined, Assert, Formula}
 use Rattle.tokens.specs.Words.{Word, word}
 use Rattle.syntax.specs.Plain.{Plain, names, written, semicolon, comma, open_, close}
 use Rattle.syntax.specs.Parsing.{Stop, wrong, Read, Reader, ◌>>=◌, begins, behind, tail, ascii, name, names_at, parse, depth, MOST}
 use Rattle.syntax.specs.Grammar.{bare, AreNames, IsText, opens}
-use Rattle.syntax.specs.Rows.{row_name, last_name, rows_words, behind_row, is_rows}
+use Rattle.syntax.specs.Rows.{row_name, last_name, ring_name, rows_words, rings_words, behind_words, behind_row, is_rows}
 use Rattle.syntax.specs.Views.{names_of, view}
 
 -- an item without the places of its parts in the text
 pub data PlainItem : Type 0 where
   free : Sort → List (List ℕ) → PlainItem
   row : List ℕ → List ℕ → PlainItem
+  ring : List ℕ → PlainItem
   predicate : List ℕ → List (Sort × List ℕ) → Plain → PlainItem
   assumed : Plain → PlainItem
   claimed : Plain → PlainItem
@@ -28,9 +32,16 @@ view_parameter p = (p.sort, string_bytes p.name.text)
 abbrev pub view_parameters : List Parameter → List (Sort × List ℕ)
 view_parameters ps = map view_parameter ps
 
+abbrev pub view_ends : List ℕ → Ends → PlainItem
+view_ends places (Last x) = row places (string_bytes x.text)
+view_ends places Round = ring places
+
+abbrev pub view_row : Stands → PlainItem
+view_row r = view_ends (string_bytes r.places.text) r.ends
+
 abbrev pub view_item : Item → PlainItem
 view_item (Free sort xs) = free sort (names_of xs.items)
-view_item (Row r) = row (string_bytes r.places.text) (string_bytes r.last.text)
+view_item (Row r) = view_row r
 view_item (Defined p) = predicate (string_bytes p.name.text) (view_parameters p.parameters.items) (view p.body.kind)
 view_item (Assert f) = assumed (view f.kind)
 view_item (Formula f) = claimed (view f.kind)
@@ -117,13 +128,20 @@ abbrev pub other_at : Reader → ℕ → List Word → Read PlainItem
 other_at p n [] = Err wrong
 other_at p n (word k d ∷ ws) = item_of p n k d ws
 
--- a row, where that was said, or else another item
-abbrev pub row_or : Option (List Word) → Read PlainItem → Read PlainItem
-row_or None other = other
-row_or (Some rest) other = Ok (row row_name last_name, rest)
+-- the row and the ring, with the names that they have in every text
+abbrev pub the_row : PlainItem
+the_row = row row_name last_name
+
+abbrev pub the_ring : PlainItem
+the_ring = ring ring_name
+
+-- an item, where that was said, or else another one
+abbrev pub said_or : PlainItem → Option (List Word) → Read PlainItem → Read PlainItem
+said_or i None other = other
+said_or i (Some rest) other = Ok (i, rest)
 
 abbrev pub item_at : Reader → ℕ → List Word → Read PlainItem
-item_at p n ws = row_or (behind_row ws) (other_at p n ws)
+item_at p n ws = said_or the_row (behind_row ws) (said_or the_ring (behind_words rings_words ws) (other_at p n ws))
 
 -- `ws1s;`, with which a text may begin
 abbrev pub header : List Word → Result (List Word) Stop
@@ -162,6 +180,7 @@ equal = word kind.Equal (61 ∷ [])
 abbrev pub written_item : PlainItem → List Word → List Word
 written_item (free sort xs) rest = sort_word sort ∷ names xs (semicolon ∷ rest)
 written_item (row places last) rest = rows_words ++ rest
+written_item (ring places) rest = rings_words ++ rest
 written_item (predicate f ps t) rest = word kind.Predicate (112 ∷ 114 ∷ 101 ∷ 100 ∷ []) ∷ word kind.Name f ∷ open_ ∷ parameters ps (close ∷ equal ∷ written t (semicolon ∷ rest))
 written_item (assumed t) rest = word kind.Assert (97 ∷ 115 ∷ 115 ∷ 101 ∷ 114 ∷ 116 ∷ []) ∷ written t (semicolon ∷ rest)
 written_item (claimed t) rest = written t (semicolon ∷ rest)
@@ -174,6 +193,7 @@ written_items (i ∷ is) = written_item i (written_items is)
 abbrev pub bare_item : PlainItem → PlainItem
 bare_item (free sort xs) = free sort xs
 bare_item (row places last) = row places last
+bare_item (ring places) = ring places
 bare_item (predicate f ps t) = predicate f ps (bare t)
 bare_item (assumed t) = assumed (bare t)
 bare_item (claimed t) = claimed (bare t)
@@ -186,10 +206,11 @@ abbrev pub AreParameters : List (Sort × List ℕ) → Type 0
 AreParameters [] = Unit {0}
 AreParameters (p ∷ ps) = (ascii p.1 ≡ true) × AreParameters ps
 
--- a row has its names; a formula that is the name `rows` alone stands in parentheses, since `rows;` is a row
+-- a row and a ring have their names; a formula that is the name `rows` or `rings` alone stands in parentheses, since `rows;` is a row and `rings;` a ring
 abbrev pub IsItem : PlainItem → Type 0
 IsItem (free sort xs) = AreNames xs
 IsItem (row places last) = (places ≡ row_name) × (last ≡ last_name)
+IsItem (ring places) = places ≡ ring_name
 IsItem (predicate f ps t) = (ascii f ≡ true) × AreParameters ps × IsFormula t
 IsItem (assumed t) = IsFormula t
 IsItem (claimed t) = IsFormula t × (is_rows t ≡ false)

@@ -6,8 +6,8 @@ use Rattle.trees.specs.declared.tree.Binary.TheVariants as binary
 use Rattle.syntax.specs.Plain.{Plain, yes, no, nowhere, number, digits, named, paren, listed, prefixed, joined, bound, call, counted, tallied, Plains, none, more}
 use Rattle.syntax.specs.Parsing.{level_of, right_of, depth, MOST, ascii}
 use Rattle.syntax.specs.Grammar.{AreNames}
-use Rattle.syntax.specs.Rows.{row_name, last_name, is_rows}
-use Rattle.syntax.specs.Items.{PlainItem, free, row, predicate, assumed, claimed, AreParameters}
+use Rattle.syntax.specs.Rows.{row_name, last_name, ring_name, is_rows}
+use Rattle.syntax.specs.Items.{PlainItem, free, row, ring, predicate, assumed, claimed, AreParameters}
 
 -- how tight an expression binds
 abbrev pub level : Plain → ℕ
@@ -76,10 +76,11 @@ abbrev mutual
   AreTrees none = Unit {0}
   AreTrees (more t ts) = IsTree t × AreTrees ts
 
--- a formula that is the name `rows` alone stands in parentheses, since `rows;` is a row
+-- a formula that is the name `rows` or `rings` alone stands in parentheses, since `rows;` is a row and `rings;` a ring
 abbrev pub text_item : Bool → PlainItem → PlainItem
 text_item all (free sort xs) = free sort xs
 text_item all (row places last) = row places last
+text_item all (ring places) = ring places
 text_item all (predicate f ps t) = predicate f ps (text all t)
 text_item all (assumed t) = assumed (text all t)
 text_item all (claimed t) = claimed (enclosed (is_rows t) (text all t))
@@ -88,6 +89,7 @@ text_item all (claimed t) = claimed (enclosed (is_rows t) (text all t))
 abbrev pub IsTreeItem : PlainItem → Type 0
 IsTreeItem (free sort xs) = AreNames xs
 IsTreeItem (row places last) = (places ≡ row_name) × (last ≡ last_name)
+IsTreeItem (ring places) = places ≡ ring_name
 IsTreeItem (predicate f ps t) = (ascii f ≡ true) × AreParameters ps × IsTree t × (depth t ≤ MOST)
 IsTreeItem (assumed t) = IsTree t × (depth t ≤ MOST)
 IsTreeItem (claimed t) = IsTree t × (depth t ≤ MOST)

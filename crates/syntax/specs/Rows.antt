@@ -1,5 +1,5 @@
--- How a text says that it is about a row: `rows;`, or in MONA's words `m2l-str;`.
-use Rattle.std.specs.Prelude.{ℕ, List, [], ◌∷◌, Bool, false, ◌&&◌, if◌then◌else◌, Option, Some, None, codes}
+-- How a text says that it is about a row: `rows;`, or in MONA's words `m2l-str;`; and that it is about a ring: `rings;`.
+use Rattle.std.specs.Prelude.{ℕ, List, [], ◌∷◌, Bool, false, ◌&&◌, ◌||◌, if◌then◌else◌, Option, Some, None, codes}
 use Rattle.std.specs.Option.{option_or, option_and_then}
 use Rattle.std.specs.Str.{bytes_eq}
 use denote.Enum.Bare.{sameb}
@@ -17,12 +17,22 @@ row_name = codes "row"
 abbrev pub last_name : List ℕ
 last_name = codes "last"
 
--- the word, which is a name elsewhere
+-- the name of the ring's places
+abbrev pub ring_name : List ℕ
+ring_name = codes "ring"
+
+-- the words, which are names elsewhere
 abbrev pub rows_name : List ℕ
 rows_name = codes "rows"
 
+abbrev pub rings_name : List ℕ
+rings_name = codes "rings"
+
 abbrev pub rows_words : List Word
 rows_words = word kind.Name rows_name ∷ semicolon ∷ []
+
+abbrev pub rings_words : List Word
+rings_words = word kind.Name rings_name ∷ semicolon ∷ []
 
 abbrev pub mona_words : List Word
 mona_words = word kind.Foreign (codes "m2l") ∷ sign_of binary.Minus ∷ word kind.Name (codes "str") ∷ semicolon ∷ []
@@ -41,7 +51,7 @@ behind_words (word k d ∷ us) ws = option_and_then (behind_words us) (behind_wo
 abbrev pub behind_row : List Word → Option (List Word)
 behind_row ws = option_or (behind_words rows_words ws) (behind_words mona_words ws)
 
--- whether an expression is the name `rows` alone
+-- whether an expression is the name `rows` or `rings` alone
 abbrev pub is_rows : Plain → Bool
-is_rows (named x) = bytes_eq x rows_name
+is_rows (named x) = bytes_eq x rows_name || bytes_eq x rings_name
 is_rows _ = false

@@ -7,7 +7,7 @@ ghost use Rattle.syntax.specs.Items.{PlainItem, view_parameter, view_parameters,
 
 use crate::expression::expression;
 use crate::fault::{Fault, Wanted};
-use crate::row::{behind_row, named_row};
+use crate::row::{behind_ring, behind_row, named_ring, named_row};
 use crate::source::{Source, front, name, names, span, token};
 use tokens::kind::Kind;
 use tokens::token::Token;
@@ -134,7 +134,7 @@ fn free<'a>(
     Ok((Item::Free(sort, names), rest))
 }
 
-// An item that is not a row.
+// An item that is neither a row nor a ring.
 fn other<'a>(source: &Source<'_>, tokens: &'a [Token]) -> Result<(Item, &'a [Token]), Fault>
     requires known { length tokens.now ≤ source.now.count }
     requires some { 0 < length tokens.now }
@@ -165,10 +165,13 @@ fn item<'a>(source: &Source<'_>, tokens: &'a [Token]) -> Result<(Item, &'a [Toke
     ensures gives { Gives (λ r. (view_item r.0, words source.now.text.now r.1.now)) result (item_at (parse source.now.count source.now.open) source.now.count (words source.now.text.now tokens.now)) }
     ensures less { IfOk result (λ r. length r.1.now < length tokens.now) }
 {
-    match behind_row(source, tokens) {
-        Some((span, rest)) => Ok((Item::Row(named_row(source.heap, span)?), rest)),
-        None => other(source, tokens),
+    if let Some((span, rest)) = behind_row(source, tokens) {
+        return Ok((Item::Row(named_row(source.heap, span)?), rest));
     }
+    if let Some((span, rest)) = behind_ring(source, tokens) {
+        return Ok((Item::Row(named_ring(source.heap, span)?), rest));
+    }
+    other(source, tokens)
 }
 
 // The tokens behind `ws1s;`, with which a text may begin.

@@ -1,7 +1,8 @@
-// How a text says that it is about a row: `rows;`, or in MONA's words `m2l-str;`.
-ghost use Rattle.std.specs.Prelude.{◌≡◌, ℕ, ◌+◌, ◌<◌, List, length, IfSome, MatchOption, Some, None, Ok, string_bytes};
+// How a text says that it is about a row: `rows;`, or in MONA's words `m2l-str;`; and that it is about a ring: `rings;`.
+ghost use Rattle.std.specs.Prelude.{◌≡◌, ℕ, ◌+◌, ◌<◌, List, length, IfSome, MatchOption, Some, None, Ok};
 ghost use Rattle.tokens.specs.Words.{words};
-ghost use Rattle.syntax.specs.Rows.{row_name, last_name, rows_words, mona_words, behind_word, behind_words, behind_row};
+ghost use Rattle.syntax.specs.Rows.{rows_words, mona_words, rings_words, behind_word, behind_words, behind_row};
+ghost use Rattle.syntax.specs.Items.{view_row, the_row, the_ring};
 ghost use Rattle.syntax.specs.Views.{Gives};
 
 use crate::fault::Fault;
@@ -10,7 +11,7 @@ use std::alloc::Global;
 use tokens::kind::Kind;
 use tokens::token::Token;
 use trees::position::Span;
-use trees::tree::{Name, Row};
+use trees::tree::{Ends, Name, Row};
 
 // The span of a word of that kind and with these bytes, if the tokens begin with one, and the tokens behind it.
 fn behind_word<'a>(
@@ -63,9 +64,19 @@ pub fn behind_row<'a>(source: &Source<'_>, tokens: &'a [Token]) -> Option<(Span,
     }
 }
 
+/// Where it is said that the text is about a ring, if it is said there, and the tokens behind it.
+pub fn behind_ring<'a>(source: &Source<'_>, tokens: &'a [Token]) -> Option<(Span, &'a [Token])>
+    ensures behind { MatchOption result (behind_words rings_words (words source.now.text.now tokens.now) ≡ None) (λ r. behind_words rings_words (words source.now.text.now tokens.now) ≡ Some (words source.now.text.now r.1.now)) }
+    ensures less { IfSome result (λ r. length r.1.now < length tokens.now) }
+{
+    let (span, rest) = behind_word(source, tokens, Kind::Name, b"rings")?;
+    let (_, rest) = behind_word(source, rest, Kind::Semicolon, b";")?;
+    Some((span, rest))
+}
+
 /// The row that is said at a place, with the names that it has in every text.
 pub fn named_row(heap: Global, span: Span) -> Result<Row, Fault>
-    ensures { Gives {Y = List ℕ × List ℕ} (λ r. (string_bytes r.places.text, string_bytes r.last.text)) result (Ok (row_name, last_name)) }
+    ensures { Gives (λ r. view_row r) result (Ok the_row) }
 {
     let places = Name {
         text: String::from_str(heap, "row")?,
@@ -75,5 +86,22 @@ pub fn named_row(heap: Global, span: Span) -> Result<Row, Fault>
         text: String::from_str(heap, "last")?,
         span,
     };
-    Ok(Row { places, last })
+    Ok(Row {
+        places,
+        ends: Ends::Last(last),
+    })
+}
+
+/// The ring that is said at a place, with the name that it has in every text.
+pub fn named_ring(heap: Global, span: Span) -> Result<Row, Fault>
+    ensures { Gives (λ r. view_row r) result (Ok the_ring) }
+{
+    let places = Name {
+        text: String::from_str(heap, "ring")?,
+        span,
+    };
+    Ok(Row {
+        places,
+        ends: Ends::Round,
+    })
 }

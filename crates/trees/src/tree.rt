@@ -89,14 +89,21 @@ pub struct Predicate {
     pub body: Expr,
 }
 
-/// The row of which a text speaks: the names of the set of its places and of its last place.
+/// How places that follow one another end: a row's with a last one, which has this name; a ring's do not, since behind the last comes the first again.
+#[derive(Drop)]
+pub enum Ends {
+    Last(Name),
+    Round,
+}
+
+/// The row or the ring of which a text speaks: the name of the set of its places, and how they end.
 #[derive(Drop)]
 pub struct Row {
     pub places: Name,
-    pub last: Name,
+    pub ends: Ends,
 }
 
-/// What stands in a text up to a semicolon: names that are declared, the row of which is spoken from here on, a predicate, what is assumed, what is claimed.
+/// What stands in a text up to a semicolon: names that are declared, the row or the ring of which is spoken from here on, a predicate, what is assumed, what is claimed.
 #[derive(Drop)]
 pub enum Item {
     Free(Sort, Vec<Name>),

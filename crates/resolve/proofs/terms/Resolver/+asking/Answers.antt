@@ -1,15 +1,15 @@
-use Rattle.std.proofs.Common.{◌≡◌, ◌⊎◌, ◌<◌, inl, inr, IfErr, string_bytes, List, suc, ◌-◌, ◌++◌, ◌∷◌, map, length, take, drop, ◌∙◌, sym, refl, ap, subst, arith, rules, add-one, OnOk}
+use Rattle.std.proofs.Common.{◌≡◌, ◌⊎◌, ◌+◌, ◌<◌, inl, inr, IfErr, string_bytes, List, suc, ◌-◌, ◌++◌, ◌∷◌, map, length, take, drop, ◌∙◌, sym, refl, ap, subst, arith, rules, add-one, OnOk}
 use Rattle.formulas.specs.Sets.{highest}
-use Rattle.trees.specs.declared.tree.Sort.TheVariants.{Place as OfPlace}
-use Rattle.resolve.specs.Says.{bind, place, with_row, in_row, given, declare, count}
+use Rattle.resolve.specs.Spaces.{the_ring}
+use Rattle.resolve.specs.Says.{bind, place, placed, ending, in_row, given, declare, count}
 use Rattle.resolve.specs.Kinds.{kind_of}
-use Rattle.resolve.specs.Scopes.{meant, context, signature, term_sort, Settled, Steady}
+use Rattle.resolve.specs.Scopes.{meant, context, signature, Settled, Steady}
 use Rattle.resolve.specs.Asks.{declared, Written, AsksMore}
 use Rattle.resolve.proofs.Iff.{on_ok}
 use Rattle.resolve.proofs.ScopesLaws.{steady_more}
 use Rattle.resolve.proofs.ValuesLaws.{head_rest}
 use Rattle.trees.specs.declared.tree.Name.{Name}
-use Rattle.resolve.specs.Faults.{Faulty, FaultyText, RowAgain, IsLimit, named, with_row as with_row_names}
+use Rattle.resolve.specs.Faults.{Faulty, FaultyText, RowAgain, EndsAgain, IsLimit, named, with_ends, with_row as with_row_names}
 use Rattle.resolve.specs.declared.fault.Class.TheVariants.{Formula}
 use Rattle.resolve.proofs.FaultsLaws.{if_err}
 use Rattle.resolve.proofs.TextFaultsLaws.{text_tail, text_passed, InNames, names_more}
@@ -34,7 +34,7 @@ items-returns-in_ok-push-in-Assert-clause-says t c =
     let parts = head_rest xs c.first-item.result (omega (arith, c.in-len1-up.len_at_least)) c.first-item.is ∙ ap (λ z. z ∷ rest) c.in-Assert.is in
     rw parts (on_ok c.items-in-Assert.result _ _
     (λ m. assumed_more c.args.asked.now _ c.items-in-Assert.new.asked (declared rest) rest c.args.level (λ e. context c.args.scope.now e) _
-    c.in-Assert.expr refl c.in_ok-push-in-Assert.ensures.items refl (record { expr = refl; means = c.in_ok-formula-in-Assert.ensures.says; row = c.is_in_row.ensures }) m) c.items-in-Assert.ensures.says)
+    c.in-Assert.expr refl c.in_ok-push-in-Assert.ensures.items refl (record { expr = refl; means = c.in_ok-formula-in-Assert.ensures.says; row = c.is_in_row.ensures.space }) m) c.items-in-Assert.ensures.says)
 
 pub items-returns-in_ok-push-in-Formula-clause-says : goal.items-returns-in_ok-push-in-Formula-clause-says
 items-returns-in_ok-push-in-Formula-clause-says t c =
@@ -43,7 +43,7 @@ items-returns-in_ok-push-in-Formula-clause-says t c =
     let parts = head_rest xs c.first-item.result (omega (arith, c.in-len1-up.len_at_least)) c.first-item.is ∙ ap (λ z. z ∷ rest) c.in-Formula.is in
     rw parts (on_ok c.items-in-Formula.result _ _
     (λ m. claimed_more c.args.asked.now _ c.items-in-Formula.new.asked (declared rest) rest c.args.level (λ e. context c.args.scope.now e) _
-    c.in-Formula.expr refl c.in_ok-push-in-Formula.ensures.items refl (record { expr = refl; means = c.in_ok-formula-in-Formula.ensures.says; row = c.is_in_row-in-Formula.ensures }) m) c.items-in-Formula.ensures.says)
+    c.in-Formula.expr refl c.in_ok-push-in-Formula.ensures.items refl (record { expr = refl; means = c.in_ok-formula-in-Formula.ensures.says; row = c.is_in_row-in-Formula.ensures.space }) m) c.items-in-Formula.ensures.says)
 
 pub names-names-requires : goal.names-names-requires
 names-names-requires t c =
@@ -116,20 +116,10 @@ names-returns-clause-faults t c =
 pub items-row-requires : goal.items-row-requires
 items-row-requires t c = (search rules, c.requires)
 
-pub row-items-requires : goal.row-items-requires
-row-items-requires t c =
+pub row-ends-requires : goal.row-ends-requires
+row-ends-requires t c =
     let n = c.args.level in
-    let e : c.in-Some.next ≡ suc n = omega (arith, c.in-Some.ensures) in
-    let below : n < c.in-Some.next = omega (arith, c.in-Some.ensures) in (
-      search rules,
-      (
-        below,
-        (
-          λ e f a. c.in_ok-last.ensures.means e ∙ (ap (λ u. place (highest u)) (a n below).1 ∙ sym (c.in_ok-last.ensures.means f)),
-          (subst (λ m. Settled m c.in_ok-places.places) (sym e) (subst (λ m. Settled m c.in_ok-places.places) (add-one n) c.in_ok-places.ensures.settled), subst (λ m. Steady m c.args.scope.now) (sym e) (steady_more n c.args.scope.now c.requires)),
-        ),
-      ),
-    )
+    (search rules, (c.in_ok-places.ensures.settled, subst (λ m. Steady m c.args.scope.now) (sym (add-one n)) (steady_more n c.args.scope.now c.requires)))
 
 pub row-returns-clause-says : goal.row-returns-clause-says
 row-returns-clause-says t c =
@@ -137,24 +127,54 @@ row-returns-clause-says t c =
     let items = c.args.rest.now in
     let r = c.args.row.now in
     let s = c.args.scope.now in
-    let e : c.in-Some.next ≡ suc n = omega (arith, c.in-Some.ensures) in
-    on_ok c.items.result _ _
-    (λ m. name_more c.args.asked.now _ c.items.new.asked (declared items) (λ l k. Written items (suc n) (λ f. in_row r n f (context s f)) l k) _
+    on_ok c.ends.result _ _
+    (λ m. name_more c.args.asked.now _ c.ends.new.asked (declared items) (λ l k. Written items (suc n) (λ f. in_row r n f (context s f)) l k) _
     c.in_ok-push.ensures.items refl refl
-    (rest_same _ c.items.new.asked _ _ _ (written_same items c.in-Some.next (suc n)
-    (λ f. with_row (f.groups n) (bind r.last (meant c.in_ok-last.last f) (bind r.places (meant c.in_ok-places.places f) (context s f))))
-    (λ f. in_row r n f (context s f)) e (λ f.
-    ap (λ v. with_row (f.groups n) (bind r.last v (bind r.places (meant c.in_ok-places.places f) (context s f)))) (c.in_ok-last.ensures.means f)
-    ∙ ap (λ v. with_row (f.groups n) (bind r.last (place (highest (f.groups n))) (bind r.places v (context s f)))) (c.in_ok-places.ensures.means f))) m)) c.items.ensures.says
+    (rest_same _ c.ends.new.asked _ _ _ (written_same items (suc n) (suc n)
+    (λ f. ending r.ends (f.groups n) (bind r.places (meant c.in_ok-places.places f) (context s f)))
+    (λ f. in_row r n f (context s f)) refl (λ f.
+    ap (λ v. ending r.ends (f.groups n) (bind r.places v (context s f))) (c.in_ok-places.ensures.means f))) m)) c.ends.ensures.says
 
 pub row-returns-clause-faults : goal.row-returns-clause-faults
 row-returns-clause-faults t c =
     let r = c.args.row.now in
     let k = signature c.args.scope.now in
     let items = c.args.rest.now in
-    let first = subst (λ y. IfErr c.items.result (λ f. IsLimit f ⊎ FaultyText items (named (string_bytes r.last.text) y (named (string_bytes r.places.text) (term_sort c.in_ok-places.places) k)) f)) c.in_ok-last.ensures.sorts c.items.ensures.faults in
-    let both = subst (λ y. IfErr c.items.result (λ f. IsLimit f ⊎ FaultyText items (named (string_bytes r.last.text) OfPlace (named (string_bytes r.places.text) y k)) f)) c.in_ok-places.ensures.sorts first in
-    if_err c.items.result _ _ (λ g. elim [ inl l ↦ inl l | inr q ↦ inr (inr q) ]) both
+    let inside = subst (λ y. IfErr c.ends.result (λ f. IsLimit f ⊎ (EndsAgain r.ends (named (string_bytes r.places.text) y k) f ⊎ FaultyText items (with_ends r.ends (named (string_bytes r.places.text) y k)) f))) c.in_ok-places.ensures.sorts c.ends.ensures.faults in
+    if_err c.ends.result _ _ (λ g. elim [ inl l ↦ inl l | inr q ↦ elim q [ inl p ↦ inr (inl (inr (inr p))) | inr p ↦ inr (inr p) ] ]) inside
+
+pub ends-items-requires : goal.ends-items-requires
+ends-items-requires t c =
+    let n = c.args.level in
+    let e : c.in-Some.next ≡ n + 1 = omega (arith, c.in-Some.ensures) in
+    let below : n < c.in-Some.next = omega (arith, c.in-Some.ensures) in (
+      search rules,
+      (
+        below,
+        (
+          λ e f a. c.in_ok-last-in-Last.ensures.means e ∙ (ap (λ u. place (highest u)) (a n below).1 ∙ sym (c.in_ok-last-in-Last.ensures.means f)),
+          subst (λ m. Steady m c.args.scope.now) (sym e) c.requires,
+        ),
+      ),
+    )
+
+pub ends-items-requires-in-Round : goal.ends-items-requires-in-Round
+ends-items-requires-in-Round t c =
+    let n = c.args.level in
+    let e : c.in-Some.next ≡ n + 1 = omega (arith, c.in-Some.ensures) in
+    let below : n < c.in-Some.next = omega (arith, c.in-Some.ensures) in
+    (search rules, (below, subst (λ m. Steady m c.args.scope.now) (sym e) c.requires))
+
+pub ends-returns-in-Round-clause-says : goal.ends-returns-in-Round-clause-says
+ends-returns-in-Round-clause-says t c =
+    let n = c.args.level in
+    let items = c.args.rest.now in
+    let r = c.args.row.now in
+    let s = c.args.scope.now in
+    let e : c.in-Some.next ≡ suc n = omega (arith, c.in-Some.ensures) in
+    on_ok c.items-in-Round.result _ _
+    (rest_same c.args.asked.now c.items-in-Round.new.asked (declared items) _ _ (written_same items c.in-Some.next (suc n)
+    (λ f. placed (the_ring (f.groups n)) (context s f)) (λ f. ending r.ends (f.groups n) (context s f)) e (λ f. ap (λ d. ending d (f.groups n) (context s f)) (sym c.in-Round.is)))) c.items-in-Round.ensures.says
 
 pub items-returns-in-Row-clause-says : goal.items-returns-in-Row-clause-says
 items-returns-in-Row-clause-says t c =

@@ -9,3 +9,6 @@ decreases-row l = l.calls
 
 abbrev pub decreases-names : goal.decreases-names
 decreases-names l = l.calls
+
+abbrev pub decreases-ends : goal.decreases-ends
+decreases-ends l = l.calls

@@ -1,12 +1,14 @@
 use Rattle.std.proofs.Common.{◌≡◌, ◌∷◌, Some, inl, inr, refl, map, length, take, drop, ◌-◌, ◌∙◌, sym, ap, arith, rules}
 use Rattle.claims.specs.Places.{one}
-use Rattle.resolve.specs.Says.{value, set, each_place, place_of}
-use Rattle.resolve.specs.Scopes.{context, term_sort, signature}
+use Rattle.resolve.specs.Says.{value, number_of, set, each_place, place_of}
+use Rattle.resolve.specs.Scopes.{context, places_of, term_sort, signature}
 use Rattle.resolve.proofs.ValuesLaws.{head_rest, mix_none, none_left}
 use Rattle.resolve.proofs.RowsLaws.{listed_says}
+use Rattle.resolve.proofs.ScopesLaws.{ring_is}
+use Rattle.resolve.proofs.RingLaws.{further_means, back_means}
 use Rattle.resolve.specs.Faults.{class_of, class_of_sort, other_class}
 use Rattle.resolve.specs.declared.fault.Class.TheVariants.{Formula, Place, Set}
-use Rattle.resolve.proofs.FaultsLaws.{term_deeper, term_number, term_listed, listed_first, listed_rest, term_named, no_term_passed, formula_not_place, formula_not_set, place_not_set, set_not_place, unary_class, binary_class}
+use Rattle.resolve.proofs.FaultsLaws.{term_deeper, term_number, term_listed, listed_first, listed_rest, term_named, term_round, no_term_passed, formula_not_place, formula_not_set, place_not_set, set_not_place, unary_class, binary_class}
 use Rattle.resolve.proofs.terms.Resolver.+terms.Goals as goal
 
 pub listed-returns-then-is_empty-clause-means : goal.listed-returns-then-is_empty-clause-means
@@ -131,3 +133,36 @@ group-returns-in_err-group-clause-faults t c = no_term_passed c.from_residual-in
 
 pub place-returns-in_err-place-clause-faults : goal.place-returns-in_err-place-clause-faults
 place-returns-in_err-place-clause-faults t c = no_term_passed c.from_residual-in_err-place.result (signature c.args.scope.now) Place c.args.expr.now _ formula_not_place c.from_residual-in_err-place.ensures.1 c.in_err-place.ensures.faults
+
+pub term-returns-in_err-check_ends-in-Number-clause-faults : goal.term-returns-in_err-check_ends-in-Number-clause-faults
+term-returns-in_err-check_ends-in-Number-clause-faults t c = term_round c.from_residual-in_err-check_ends-in-Number.result (signature c.args.scope.now) c.args.wanted c.args.expr.now _ c.from_residual-in_err-check_ends-in-Number.ensures.1 c.in_err-check_ends-in-Number.ensures.faults (rw c.in-Number.is tt)
+
+pub term-returns-in_err-check_ends-in-Min-clause-faults : goal.term-returns-in_err-check_ends-in-Min-clause-faults
+term-returns-in_err-check_ends-in-Min-clause-faults t c = term_round c.from_residual-in_err-check_ends-in-Min.result (signature c.args.scope.now) c.args.wanted c.args.expr.now _ c.from_residual-in_err-check_ends-in-Min.ensures.1 c.in_err-check_ends-in-Min.ensures.faults (rw (c.in-Unary.is, c.in-Min.is) tt)
+
+pub term-returns-in_err-check_ends-in-Max-clause-faults : goal.term-returns-in_err-check_ends-in-Max-clause-faults
+term-returns-in_err-check_ends-in-Max-clause-faults t c = term_round c.from_residual-in_err-check_ends-in-Max.result (signature c.args.scope.now) c.args.wanted c.args.expr.now _ c.from_residual-in_err-check_ends-in-Max.ensures.1 c.in_err-check_ends-in-Max.ensures.faults (rw (c.in-Unary.is, c.in-Max.is) tt)
+
+pub term-returns-in_ok-further-in-Plus-clause-means : goal.term-returns-in_ok-further-in-Plus-clause-means
+term-returns-in_ok-further-in-Plus-clause-means t c = λ e.
+    let s = context c.args.scope.now e in
+    let a = c.in-Binary.a.value in
+    let b = c.in-Binary.b.value in
+    let d1 : c.deref-in-Plus.result.now ≡ a = c.deref-in-Plus.ensures in
+    let d2 : c.deref-in-Plus-2.result.now ≡ b = c.deref-in-Plus-2.ensures in
+    let at = ap (λ x. value x.kind s) (sym d1) ∙ c.in_ok-a-in-Plus.ensures.means e in
+    let by = c.in_ok-number-in-Plus.ensures.means ∙ ap (λ x. number_of x.kind) d2 in
+    let on = ring_is c.args.scope.now e ∙ ap (λ o. places_of o e) (sym c.ring_of.ensures) in
+    rw (c.in-Binary.is, c.in-Plus.is) (further_means s a b (places_of c.ring_of.result e) _ _ _ at by on (c.in_ok-further-in-Plus.ensures.means e))
+
+pub term-returns-in_ok-back-in-Minus-clause-means : goal.term-returns-in_ok-back-in-Minus-clause-means
+term-returns-in_ok-back-in-Minus-clause-means t c = λ e.
+    let s = context c.args.scope.now e in
+    let a = c.in-Binary.a.value in
+    let b = c.in-Binary.b.value in
+    let d1 : c.deref-in-Minus.result.now ≡ a = c.deref-in-Minus.ensures in
+    let d2 : c.deref-in-Minus-2.result.now ≡ b = c.deref-in-Minus-2.ensures in
+    let at = ap (λ x. value x.kind s) (sym d1) ∙ c.in_ok-a-in-Minus.ensures.means e in
+    let by = c.in_ok-number-in-Minus.ensures.means ∙ ap (λ x. number_of x.kind) d2 in
+    let on = ring_is c.args.scope.now e ∙ ap (λ o. places_of o e) (sym c.ring_of-in-Minus.ensures) in
+    rw (c.in-Binary.is, c.in-Minus.is) (back_means s a b (places_of c.ring_of-in-Minus.result e) _ _ _ at by on (c.in_ok-back-in-Minus.ensures.means e))

@@ -2,7 +2,7 @@ use Rattle.std.proofs.Common.{◌≡◌, inl, inr, refl}
 use Rattle.resolve.specs.Scopes.{signature}
 use Rattle.resolve.specs.Faults.{class_of, side, Connects}
 use Rattle.resolve.specs.declared.fault.Class.TheVariants.{Place, Set}
-use Rattle.resolve.proofs.FaultsLaws.{one_tail, two_tail, two_passed, counted_tail, unless_err}
+use Rattle.resolve.proofs.FaultsLaws.{one_tail, two_tail, two_passed, counted_tail, round_passed, unless_err}
 use Rattle.resolve.proofs.terms.Resolver.compared.Goals as goal
 
 pub returns-in-IsEmpty-clause-faults : goal.returns-in-IsEmpty-clause-faults
@@ -45,14 +45,14 @@ returns-in_err-formula-in-Differs-clause-faults c =
     let d2 : c.deref-in-Differs-2.result.now ≡ c.in-Binary.b.value = c.deref-in-Differs-2.ensures in
     unless_err c.from_residual-in_err-formula-in-Differs.result (signature c.args.scope.now) c.args.expr.now (Connects c.args.expr.now.kind) (two_passed c.from_residual-in_err-formula-in-Differs.result (signature c.args.scope.now) c.args.expr.now (side (class_of (signature c.args.scope.now) c.deref-in-Differs.result.now.kind)) (side (class_of (signature c.args.scope.now) c.deref-in-Differs.result.now.kind)) c.deref-in-Differs.result.now c.deref-in-Differs-2.result.now _ c.from_residual-in_err-formula-in-Differs.ensures.1 c.in_err-formula-in-Differs.ensures.faults (rw (c.in-Binary.is, c.in-Differs.is, d1) (inl refl)) (rw (c.in-Binary.is, c.in-Differs.is, d1, d2) (inr (inl refl))))
 
-pub returns-in-Less-clause-faults : goal.returns-in-Less-clause-faults
-returns-in-Less-clause-faults c =
+pub returns-in_ok-check_ends-in-Less-clause-faults : goal.returns-in_ok-check_ends-in-Less-clause-faults
+returns-in_ok-check_ends-in-Less-clause-faults c =
     let d1 : c.deref-in-Less.result.now ≡ c.in-Binary.a.value = c.deref-in-Less.ensures in
     let d2 : c.deref-in-Less-2.result.now ≡ c.in-Binary.b.value = c.deref-in-Less-2.ensures in
     unless_err c.before-in-Less.result (signature c.args.scope.now) c.args.expr.now (Connects c.args.expr.now.kind) (two_tail c.before-in-Less.result (signature c.args.scope.now) c.args.expr.now Place Place c.deref-in-Less.result.now c.deref-in-Less-2.result.now c.before-in-Less.ensures.faults (rw (c.in-Binary.is, c.in-Less.is, d1) (inl refl)) (rw (c.in-Binary.is, c.in-Less.is, d2) (inr (inl refl))))
 
-pub returns-in-Greater-clause-faults : goal.returns-in-Greater-clause-faults
-returns-in-Greater-clause-faults c =
+pub returns-in_ok-check_ends-in-Greater-clause-faults : goal.returns-in_ok-check_ends-in-Greater-clause-faults
+returns-in_ok-check_ends-in-Greater-clause-faults c =
     let d1 : c.deref-in-Greater.result.now ≡ c.in-Binary.b.value = c.deref-in-Greater.ensures in
     let d2 : c.deref-in-Greater-2.result.now ≡ c.in-Binary.a.value = c.deref-in-Greater-2.ensures in
     unless_err c.before-in-Greater.result (signature c.args.scope.now) c.args.expr.now (Connects c.args.expr.now.kind) (two_tail c.before-in-Greater.result (signature c.args.scope.now) c.args.expr.now Place Place c.deref-in-Greater.result.now c.deref-in-Greater-2.result.now c.before-in-Greater.ensures.faults (rw (c.in-Binary.is, c.in-Greater.is, d1) (inr (inl refl))) (rw (c.in-Binary.is, c.in-Greater.is, d2) (inl refl)))
@@ -68,3 +68,23 @@ returns-in_err-formula-in-AtLeast-clause-faults c =
     let d1 : c.deref-in-AtLeast.result.now ≡ c.in-Binary.a.value = c.deref-in-AtLeast.ensures in
     let d2 : c.deref-in-AtLeast-2.result.now ≡ c.in-Binary.b.value = c.deref-in-AtLeast-2.ensures in
     unless_err c.from_residual-in_err-formula-in-AtLeast.result (signature c.args.scope.now) c.args.expr.now (Connects c.args.expr.now.kind) (two_passed c.from_residual-in_err-formula-in-AtLeast.result (signature c.args.scope.now) c.args.expr.now Place Place c.deref-in-AtLeast.result.now c.deref-in-AtLeast-2.result.now _ c.from_residual-in_err-formula-in-AtLeast.ensures.1 c.in_err-formula-in-AtLeast.ensures.faults (rw (c.in-Binary.is, c.in-AtLeast.is, d1) (inl refl)) (rw (c.in-Binary.is, c.in-AtLeast.is, d2) (inr (inl refl))))
+
+pub returns-in_err-check_ends-in-Less-clause-faults : goal.returns-in_err-check_ends-in-Less-clause-faults
+returns-in_err-check_ends-in-Less-clause-faults c =
+    let result = c.from_residual-in_err-check_ends-in-Less.result in
+    unless_err result (signature c.args.scope.now) c.args.expr.now (Connects c.args.expr.now.kind) (round_passed result (signature c.args.scope.now) c.args.expr.now _ c.from_residual-in_err-check_ends-in-Less.ensures.1 c.in_err-check_ends-in-Less.ensures.faults (rw (c.in-Binary.is, c.in-Less.is) tt))
+
+pub returns-in_err-check_ends-in-Greater-clause-faults : goal.returns-in_err-check_ends-in-Greater-clause-faults
+returns-in_err-check_ends-in-Greater-clause-faults c =
+    let result = c.from_residual-in_err-check_ends-in-Greater.result in
+    unless_err result (signature c.args.scope.now) c.args.expr.now (Connects c.args.expr.now.kind) (round_passed result (signature c.args.scope.now) c.args.expr.now _ c.from_residual-in_err-check_ends-in-Greater.ensures.1 c.in_err-check_ends-in-Greater.ensures.faults (rw (c.in-Binary.is, c.in-Greater.is) tt))
+
+pub returns-in_err-check_ends-in-AtMost-clause-faults : goal.returns-in_err-check_ends-in-AtMost-clause-faults
+returns-in_err-check_ends-in-AtMost-clause-faults c =
+    let result = c.from_residual-in_err-check_ends-in-AtMost.result in
+    unless_err result (signature c.args.scope.now) c.args.expr.now (Connects c.args.expr.now.kind) (round_passed result (signature c.args.scope.now) c.args.expr.now _ c.from_residual-in_err-check_ends-in-AtMost.ensures.1 c.in_err-check_ends-in-AtMost.ensures.faults (rw (c.in-Binary.is, c.in-AtMost.is) tt))
+
+pub returns-in_err-check_ends-in-AtLeast-clause-faults : goal.returns-in_err-check_ends-in-AtLeast-clause-faults
+returns-in_err-check_ends-in-AtLeast-clause-faults c =
+    let result = c.from_residual-in_err-check_ends-in-AtLeast.result in
+    unless_err result (signature c.args.scope.now) c.args.expr.now (Connects c.args.expr.now.kind) (round_passed result (signature c.args.scope.now) c.args.expr.now _ c.from_residual-in_err-check_ends-in-AtLeast.ensures.1 c.in_err-check_ends-in-AtLeast.ensures.faults (rw (c.in-Binary.is, c.in-AtLeast.is) tt))

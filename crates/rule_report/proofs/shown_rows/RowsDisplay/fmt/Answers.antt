@@ -1,5 +1,6 @@
 use Rattle.std.proofs.Common.{◌++◌, false, List, ℕ, ap, ◌∙◌, map, take, get_or, rules, arith}
 use Rattle.std.proofs.Output.{has_written_append, has_written_of_eq}
+use Rattle.display.specs.declared.ends.Ends.TheVariants.{Hidden}
 use Rattle.display.specs.Marks.{shown}
 use Rattle.rule_report.specs.ShownRows.{rows_of, rows_shown, step_line}
 use Rattle.rule_report.proofs.ShownRowsLaws.{rows_shown-more}
@@ -14,5 +15,5 @@ loop-t-preserved g c = λ plain.
     let before = c.loop-t.invariant plain in
     let written = c.write.ensures.writes before.plain (search rules) in
     let read = c.row-item.is ∙ ap (λ rows. get_or rows t row) c.deref-row-items.ensures.value in
-    has_written_of_eq _ _ _ _ _ (ap (λ (w : List ℕ). rows_shown names 0 (take t (rows_of history)) ++ (step_line t ++ shown false names w)) c.as_slice.ensures.value ∙ rows_shown-more names history.rows.items t row (omega arith) read)
+    has_written_of_eq _ _ _ _ _ (ap (λ (w : List ℕ). rows_shown names 0 (take t (rows_of history)) ++ (step_line t ++ shown Hidden names w)) c.as_slice.ensures.value ∙ rows_shown-more names history.rows.items t row (omega arith) read)
     (has_written_append _ _ _ _ _ _ before written)

@@ -1,0 +1,6 @@
+use Rattle.std.proofs.Common.{◌∙◌, ap, add-one}
+use Rattle.resolve.specs.Spaces.{next}
+use Rattle.resolve.proofs.terms.Resolver.further_round.Goals as goal
+
+pub loop-i-preserved : goal.loop-i-preserved
+loop-i-preserved c = λ e. rw (add-one c.loop-i.i) (c.in_ok-moved.ensures e ∙ ap (next (e.groups c.args.ring)) (c.loop-i.invariant e))
