@@ -1,5 +1,5 @@
 -- What a text's claim is about: places and sets, if names for such are declared, or rows, or rings, and whether something is assumed of them.
-use Rattle.std.specs.Prelude.{true, false, List, [], ◌∷◌, Option, Some, None}
+use Rattle.std.specs.Prelude.{true, false, List, [], ◌∷◌, Some, None}
 use Rattle.trees.specs.declared.tree.Sort.TheVariants.{Place, Set}
 use Rattle.trees.specs.declared.tree.Row.{Row as Stands}
 use Rattle.trees.specs.declared.tree.Ends.{Ends}
