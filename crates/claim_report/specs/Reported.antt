@@ -1,5 +1,5 @@
 -- What is reported of a text that is read.
-use Rattle.std.specs.Prelude.{◌≡◌, ℕ, List, ◌++◌, codes}
+use Rattle.std.specs.Prelude.{◌≡◌, ℕ, is_some, List, ◌++◌, codes}
 use Rattle.std.specs.Fmt.{decimal}
 use Rattle.display.specs.Hex.{hex_of}
 use Rattle.workspace.specs.Floor.{Room}
@@ -22,7 +22,7 @@ use Rattle.claim_report.specs.declared.report.Wish.TheVariants.{Answer as Asked,
 
 -- how an answer is told
 abbrev pub told : Form → List Item → Answer → List ℕ
-told Rows items a = let s = subject_from nothing items in told_of s (line_names s.row (names_of items)) a
+told Rows items a = let s = subject_from nothing items in told_of s (line_names (is_some s.shape) (names_of items)) a
 told Columns items a = columns_told a
 
 -- a line of the line tool

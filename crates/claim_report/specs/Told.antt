@@ -1,11 +1,15 @@
 -- What is printed of an answer.
-use Rattle.std.specs.Prelude.{ℕ, ◌==◌, Bool, true, false, List, [], ◌∷◌, ◌++◌, length, codes, if◌then◌else◌}
+use Rattle.std.specs.Prelude.{ℕ, ◌==◌, Bool, true, false, List, [], ◌∷◌, Option, Some, None, ◌++◌, length, codes, if◌then◌else◌}
 use Rattle.std.specs.Fmt.{decimal}
 use Rattle.words.specs.Words.{Word}
+use Rattle.display.specs.declared.ends.Ends.{Ends}
+use Rattle.display.specs.declared.ends.Ends.TheVariants.{Hidden, Walls, Seam}
 use Rattle.display.specs.Marks.{shown}
 use Rattle.display.specs.Columns.{columns_of}
 use Rattle.solve.specs.declared.answer.Answer.{Answer}
 use Rattle.solve.specs.declared.answer.Answer.TheVariants.{Always, Unmet, Never, Both, TooLarge}
+use Rattle.resolve.specs.declared.scope.Shape.{Shape}
+use Rattle.resolve.specs.declared.scope.Shape.TheVariants.{Row, Ring}
 use Rattle.claim_report.specs.declared.told.Subject.{Subject}
 
 -- what the declared names stand for
@@ -14,18 +18,35 @@ kind_of true true = codes "places and sets"
 kind_of true false = codes "places"
 kind_of false _ = codes "sets"
 
+-- rows, rings, or what the declared names stand for
+abbrev pub words_of : Option Shape → List ℕ → List ℕ
+words_of None kind = kind
+words_of (Some Row) kind = codes "rows"
+words_of (Some Ring) kind = codes "rings"
+
 abbrev pub subject_of : Subject → List ℕ
-subject_of s = (if s.row then codes "rows" else kind_of s.places s.sets) ++ (if s.assumes then codes " that meet the assumptions" else [])
+subject_of s = words_of s.shape (kind_of s.places s.sets) ++ (if s.assumes then codes " that meet the assumptions" else [])
 
--- that a word has no places
-abbrev pub empty_of : Bool → List ℕ
-empty_of row = codes " of: " ++ ((if row then codes "the empty row" else codes "nothing anywhere") ++ codes " (0 places).\n")
+-- a word without places
+abbrev pub empty_word : Option Shape → List ℕ
+empty_word None = codes "nothing anywhere"
+empty_word (Some Row) = codes "the empty row"
+empty_word (Some Ring) = codes "the empty ring"
 
--- a word as rows of marks, with both ends if it is a row, or that it has no places
-abbrev pub word_of : Bool → List (List ℕ) → Word → List ℕ
-word_of row names w = if length w == 0 then empty_of row else
-    if length w == 1 then codes ", of 1 place:\n" ++ shown row names w else
-    codes ", of " ++ (decimal (length w) ++ (codes " places:\n" ++ shown row names w))
+abbrev pub empty_of : Option Shape → List ℕ
+empty_of shape = codes " of: " ++ (empty_word shape ++ codes " (0 places).\n")
+
+-- the ends of a word as they are shown: a row stands between walls, and a ring is cut at a seam
+abbrev pub ends_of : Option Shape → Ends
+ends_of None = Hidden
+ends_of (Some Row) = Walls
+ends_of (Some Ring) = Seam
+
+-- a word as rows of marks, or that it has no places
+abbrev pub word_of : Option Shape → List (List ℕ) → Word → List ℕ
+word_of shape names w = if length w == 0 then empty_of shape else
+    if length w == 1 then codes ", of 1 place:\n" ++ shown (ends_of shape) names w else
+    codes ", of " ++ (decimal (length w) ++ (codes " places:\n" ++ shown (ends_of shape) names w))
 
 -- of no names, of some
 abbrev pub by_names : List (List ℕ) → List ℕ → List ℕ → List ℕ
@@ -37,8 +58,8 @@ too_large n = codes "too large: more than " ++ (decimal n ++ codes " classes are
 
 abbrev pub both_of : Subject → List (List ℕ) → Word → Word → List ℕ
 both_of s names u v = codes "both " ++ (decimal (length u) ++ (codes " " ++ (decimal (length v) ++ codes "\n")))
-    ++ (codes "It holds of some " ++ (subject_of s ++ (codes " and not of others. First" ++ word_of s.row names u))
-    ++ (codes "It does not hold first" ++ word_of s.row names v))
+    ++ (codes "It holds of some " ++ (subject_of s ++ (codes " and not of others. First" ++ word_of s.shape names u))
+    ++ (codes "It does not hold first" ++ word_of s.shape names v))
 
 abbrev pub told_of : Subject → List (List ℕ) → Answer → List ℕ
 told_of s names Always = by_names names (codes "always\nIt holds.\n") (codes "always\nIt holds of all " ++ (subject_of s ++ codes ".\n"))

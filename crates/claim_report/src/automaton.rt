@@ -29,7 +29,7 @@ pub enum Smallest {
     TooLarge(u32),
 }
 
-/// The smallest automaton of a text's claim under its assumptions, whose set x is that of the x-th declared name; the row, where one is spoken of, is the set behind these. It is worked out with at most so many classes told apart, or as many as there is memory for. Fails where the text says nothing, where its claim takes too many bytes or sets, where more classes are wanted than there is memory for, and for memory.
+/// The smallest automaton of a text's claim under its assumptions, whose set x is that of the x-th declared name; the row or the ring, where one is spoken of, is the set behind these. It is worked out with at most so many classes told apart, or as many as there is memory for. Fails where the text says nothing, where its claim takes too many bytes or sets, where more classes are wanted than there is memory for, and for memory.
 pub fn smallest_automaton(
     alloc: Global,
     items: &[Item],

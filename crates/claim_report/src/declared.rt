@@ -2,11 +2,12 @@
 ghost use Rattle.std.specs.Prelude.{◌≡◌, ◌++◌, map, string_bytes, IfOk, OnOk};
 ghost use Rattle.resolve.specs.Asks.{declared};
 ghost use Rattle.claim_report.specs.Named.{names_of, row_names};
-ghost use Rattle.claim_report.specs.Subjects.{nothing, subject_from};
+ghost use Rattle.claim_report.specs.Subjects.{nothing, shape_of, subject_from};
 
 use crate::told::Subject;
+use resolve::scope::Shape;
 use std::alloc::{AllocError, Global};
-use trees::tree::{Item, Name, Sort};
+use trees::tree::{Ends, Item, Name, Row, Sort};
 
 // The names behind those that are there.
 fn push_names<'t>(all: &mut Vec<&'t str>, names: &'t [Name]) -> Result<(), AllocError>
@@ -35,7 +36,7 @@ pub fn names_of<'t>(alloc: Global, items: &'t [Item]) -> Result<Vec<&'t str>, Al
     Ok(all)
 }
 
-/// The names of the sets of the text's claim: those of the declared places and sets, and behind them that of the row, if one is spoken of. Fails for memory.
+/// The names of the sets of the text's claim: those of the declared places and sets, and behind them that of the row or the ring, if one is spoken of. Fails for memory.
 pub fn set_names<'t>(alloc: Global, items: &'t [Item]) -> Result<Vec<&'t str>, AllocError>
     ensures { IfOk result (λ names. map (λ n. n.now) names.items ≡ names_of items.now ++ row_names (declared items.now)) }
 {
@@ -52,6 +53,16 @@ pub fn set_names<'t>(alloc: Global, items: &'t [Item]) -> Result<Vec<&'t str>, A
     Ok(all)
 }
 
+// Whether it is a row or a ring.
+fn shape_of(row: &Row) -> Shape
+    ensures { result ≡ shape_of row.now }
+{
+    match &row.ends {
+        Ends::Last(_) => Shape::Row,
+        Ends::Round => Shape::Ring,
+    }
+}
+
 /// What the text's claim is about.
 pub fn subject_of(items: &[Item]) -> Subject
     ensures { result ≡ subject_from nothing items.now }
@@ -59,7 +70,7 @@ pub fn subject_of(items: &[Item]) -> Subject
     let mut subject = Subject {
         places: false,
         sets: false,
-        row: false,
+        shape: None,
         assumes: false,
     };
     let mut rest = items;
@@ -67,7 +78,7 @@ pub fn subject_of(items: &[Item]) -> Subject
         match item {
             Item::Free(Sort::Place, _) => subject.places = true,
             Item::Free(Sort::Set, _) => subject.sets = true,
-            Item::Row(_) => subject.row = true,
+            Item::Row(row) => subject.shape = Some(shape_of(row)),
             Item::Assert(_) => subject.assumes = true,
             Item::Predicate(_) | Item::Formula(_) => {}
         }

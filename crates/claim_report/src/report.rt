@@ -92,7 +92,7 @@ fn in_words(alloc: Global, items: &[Item], answer: &Answer) -> Result<String, Al
 {
     let subject = subject_of(items);
     let mut names = names_of(alloc, items)?;
-    if subject.row && names.is_empty() {
+    if subject.shape.is_some() && names.is_empty() {
         names.push("")?;
     }
     let told = Told {

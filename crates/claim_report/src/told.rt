@@ -1,18 +1,20 @@
 // What an answer is, in words.
-ghost use Rattle.std.specs.Prelude.{Some, map, codes};
-ghost use Rattle.claim_report.specs.Told.{subject_of, word_of, both_of, told_of, columns_told};
+ghost use Rattle.std.specs.Prelude.{◌≡◌, Some, map, codes};
+ghost use Rattle.claim_report.specs.Told.{ends_of, empty_word, subject_of, word_of, both_of, told_of, columns_told};
 
 use display::columns::Columns;
+use display::ends::Ends;
 use display::marks::Marks;
+use resolve::scope::Shape;
 use solve::answer::Answer;
 use std::fmt;
 
-/// What a text's claim is about: whether places and whether sets are declared, whether they are those of a row, and whether something is assumed of them.
+/// What a text's claim is about: whether places and whether sets are declared, whether they are those of a row or of a ring, and whether something is assumed of them.
 #[derive(Clone, Copy, Debug, PartialEq, Eq)]
 pub struct Subject {
     pub places: bool,
     pub sets: bool,
-    pub row: bool,
+    pub shape: Option<Shape>,
     pub assumes: bool,
 }
 
@@ -20,11 +22,12 @@ impl fmt::Display for Subject {
     ghost output = { λ subject. Some (subject_of subject) };
 
     fn fmt<W: fmt::Write>(&self, f: &mut fmt::Formatter<W>) -> fmt::Result {
-        let kind = match (self.row, self.places, self.sets) {
-            (true, _, _) => "rows",
-            (false, true, true) => "places and sets",
-            (false, true, false) => "places",
-            (false, false, _) => "sets",
+        let kind = match (self.shape, self.places, self.sets) {
+            (Some(Shape::Row), _, _) => "rows",
+            (Some(Shape::Ring), _, _) => "rings",
+            (None, true, true) => "places and sets",
+            (None, true, false) => "places",
+            (None, false, _) => "sets",
         };
         let condition = if self.assumes {
             " that meet the assumptions"
@@ -35,30 +38,48 @@ impl fmt::Display for Subject {
     }
 }
 
-/// A word as rows of marks, with both ends if it is a row, or that it has no places.
+// The ends of a word of this shape as they are shown: a row stands between walls, and a ring is cut at a seam.
+fn ends_of(shape: Option<Shape>) -> Ends
+    ensures { result ≡ ends_of shape }
+{
+    match shape {
+        None => Ends::Hidden,
+        Some(Shape::Row) => Ends::Walls,
+        Some(Shape::Ring) => Ends::Seam,
+    }
+}
+
+// What a word without places is.
+fn empty_word(shape: Option<Shape>) -> &'static str
+    ensures { result.now ≡ empty_word shape }
+{
+    match shape {
+        None => "nothing anywhere",
+        Some(Shape::Row) => "the empty row",
+        Some(Shape::Ring) => "the empty ring",
+    }
+}
+
+/// A word as rows of marks, with both ends if it is a row, at a seam if it is a ring; or that it has no places.
 #[derive(Clone, Copy, Debug)]
 struct Word<'n, 't, 'w> {
-    row: bool,
+    shape: Option<Shape>,
     names: &'n [&'t str],
     word: &'w [u32],
 }
 
 impl fmt::Display for Word<'_, '_, '_> {
-    ghost output = { λ w. Some (word_of w.row (map (λ name. name.now) w.names.now) w.word.now) };
+    ghost output = { λ w. Some (word_of w.shape (map (λ name. name.now) w.names.now) w.word.now) };
 
     fn fmt<W: fmt::Write>(&self, f: &mut fmt::Formatter<W>) -> fmt::Result {
         let marks = Marks {
             names: self.names,
             word: self.word,
-            ends: self.row,
+            ends: ends_of(self.shape),
         };
         let count = self.word.len();
         if count == 0 {
-            let empty = if self.row {
-                "the empty row"
-            } else {
-                "nothing anywhere"
-            };
+            let empty = empty_word(self.shape);
             write!(f, " of: {empty} (0 places).\n")
         } else if count == 1 {
             write!(f, ", of 1 place:\n{marks}")
@@ -85,12 +106,12 @@ impl fmt::Display for Both<'_, '_, '_> {
         let a = self.first.len();
         let b = self.second.len();
         let first = Word {
-            row: subject.row,
+            shape: subject.shape,
             names: self.names,
             word: self.first,
         };
         let second = Word {
-            row: subject.row,
+            shape: subject.shape,
             names: self.names,
             word: self.second,
         };

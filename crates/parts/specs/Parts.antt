@@ -18,7 +18,7 @@ use Rattle.resolve.specs.declared.asked.Stated.{Stated}
 use Rattle.resolve.specs.declared.asked.Asked.{Asked}
 use Rattle.parts.specs.declared.parts.Part.{Part}
 
--- what stands in a text, that as a formula, the items whose predicates are known there, and whether a row is spoken of there
+-- what stands in a text, that as a formula, the items whose predicates are known there, and whether a row or a ring is spoken of there
 pub record Piece : Type 0 where
   pub known : List Item
   pub expr : Expr
@@ -45,7 +45,7 @@ halves Implies (Implies' _ f _ g) = Some (f, g)
 halves Iff (And' _ f _ g) = implied f
 halves _ _ = None
 
--- what is said of a bound name besides that it is the row's, where a row is spoken of
+-- what is said of a bound name besides that it is the row's or the ring's, where one is spoken of
 abbrev pub behind_bound : Bool → Formula → Formula
 behind_bound true (And' _ f _ g) = g
 behind_bound true (Implies' _ f _ g) = g
@@ -60,7 +60,7 @@ under row (x ∷ xs) (Some2' _ _ f) = under row xs (behind_bound row f)
 under row (x ∷ xs) (All2' _ _ f) = under row xs (behind_bound row f)
 under row (x ∷ xs) f = f
 
--- whether from an item on a row is spoken of
+-- whether from an item on a row or a ring is spoken of
 abbrev pub is_row : Item → Bool
 is_row (Row r) = true
 is_row _ = false

@@ -9,7 +9,7 @@ use resolve::scope::is_same;
 use std::alloc::{AllocError, Global};
 use trees::tree::{Binary, Expr, ExprKind, Item, Name, Unary};
 
-/// What stands in a text, that as a formula, the items whose predicates are known there, and whether a row is spoken of there.
+/// What stands in a text, that as a formula, the items whose predicates are known there, and whether a row or a ring is spoken of there.
 #[derive(Clone, Copy)]
 pub struct Part<'t, 'f> {
     pub known: &'t [Item],
@@ -18,7 +18,7 @@ pub struct Part<'t, 'f> {
     pub in_row: bool,
 }
 
-// What is said of a bound name besides that it is the row's, where a row is spoken of.
+// What is said of a bound name besides that it is the row's or the ring's, where one is spoken of.
 fn behind_bound(in_row: bool, formula: &Formula) -> &Formula
     ensures { result.now ≡ behind_of in_row formula.now }
 {
@@ -86,7 +86,7 @@ fn defines(item: &Item, name: &Name) -> bool
     }
 }
 
-// Whether from an item on a row is spoken of.
+// Whether from an item on a row or a ring is spoken of.
 fn is_row(item: &Item) -> bool
     ensures { result ≡ is_row_of item.now }
 {

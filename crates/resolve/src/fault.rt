@@ -127,7 +127,7 @@ impl Fault {
                 "a ring has no first place and no last one, found `{found}`"
             ),
             Fault::Late(_) => format!(in heap;
-                "expected only declarations (`var1`, `var2`) before `rings;`, found other items before `{found}`"
+                "expected only `var1` and `var2` before `{found}`, found other items"
             ),
             Fault::Deep(_) => String::from_str(
                 heap,

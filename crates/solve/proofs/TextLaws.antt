@@ -7,8 +7,7 @@ use Rattle.trees.specs.declared.tree.Sort.{Sort}
 use Rattle.trees.specs.declared.tree.Item.{Item}
 use Rattle.trees.specs.declared.tree.Item.TheVariants.{Free, Row, Predicate as defined, Assert, Formula}
 use Rattle.trees.specs.declared.tree.Sort.TheVariants.{Place, Set}
-use Rattle.formulas.specs.Sets.{highest}
-use Rattle.resolve.specs.Says.{Context, Text, holds, bind, place, set, with_row, in_row, define, given, declare, count, text_from}
+use Rattle.resolve.specs.Says.{Context, Text, holds, bind, place, set, ending, in_row, define, given, declare, count, text_from}
 use Rattle.resolve.specs.Kinds.{kind_of}
 use Rattle.resolve.specs.declared.scope.Kind.{Kind}
 use Rattle.resolve.specs.declared.scope.Kind.TheVariants as kind
@@ -54,7 +53,7 @@ text_same (Free sort names ∷ items) n e f s t h q =
     (alike_behind sort names.items (declared items) n e f h) (declare_same sort names.items (declared items) n e f s t h q)
 text_same (Row r ∷ items) n e f s t h q =
     text_same items (suc n) e f (in_row r n e s) (in_row r n f t) h.1
-    (ap (λ u. with_row u (bind r.last (place (highest u)) (bind r.places (set u) s))) h.0 ∙ ap (λ c. with_row (f.groups n) (bind r.last (place (highest (f.groups n))) (bind r.places (set (f.groups n)) c))) q)
+    (ap (λ u. ending r.ends u (bind r.places (set u) s)) h.0 ∙ ap (λ c. ending r.ends (f.groups n) (bind r.places (set (f.groups n)) c)) q)
 text_same (defined p ∷ items) n e f s t h q = text_same items n e f (define p s) (define p t) h (ap (λ c. define p c) q)
 text_same (Assert a ∷ items) n e f s t h q =
     ap (λ c. assuming a c (text_from items n e s)) q ∙ ap (λ r. assuming a t r) (text_same items n e f s t h q)

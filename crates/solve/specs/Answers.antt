@@ -53,7 +53,7 @@ RowShows items P w =
     let u = marked (length (others_in items)) w in
     Singles (listed l) l (sets u) × P (env_of (listed l) u)
 
--- w is the first word that shows such places and sets; where a row is spoken of, the first row
+-- w is the first word that shows such places and sets; where a row is spoken of, the first row; where a ring is, the first ring, as the row of its places from place 0 on
 abbrev pub FirstShown : Option ℕ → List Item → (Env → Type 0) → Word → Type 0
 FirstShown None items P w = FirstRow (declared items) P w
 FirstShown (Some r) items P w = First (length (others_in items)) (RowShows items P) w

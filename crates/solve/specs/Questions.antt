@@ -1,4 +1,4 @@
--- What is asked about a text: its claim under its assumptions, and the opposite under them; of a text that speaks of a row, also that what is declared is a row's.
+-- What is asked about a text: its claim under its assumptions, and the opposite under them; of a text that speaks of a row or a ring, also that what is declared is the row's or the ring's. A ring's places are those of a row, and what is said here of a row is said of both.
 use Rattle.std.specs.Prelude.{◌≡◌, ℕ, suc, true, ◌↔◌, List, [], ◌∷◌, ◌++◌, Option, Some, None, length}
 use Rattle.claims.specs.Claims.{has}
 use Rattle.formulas.specs.declared.name.Name.{Name as Numbered}

@@ -12,7 +12,7 @@ use std::alloc::Global;
 use trees::tree::Item;
 use workspace::largest::largest;
 
-/// Of which places and sets a text's claim holds, of those that meet its assumptions. A word has a column for each place, in which bit x says whether the x-th declared name has the place. Where the text speaks of a row, the words are rows: each has as many places as its row.
+/// Of which places and sets a text's claim holds, of those that meet its assumptions. A word has a column for each place, in which bit x says whether the x-th declared name has the place. Where the text speaks of a row or a ring, the words are rows: each has as many places as its row, or as its ring, whose places stand from place 0 on.
 #[derive(Debug, Drop)]
 pub enum Answer {
     /// of all of them, and there are some
@@ -41,7 +41,7 @@ pub fn allowed(question: &Question, wanted: Option<u32>) -> Result<u32, Stop>
     }
 }
 
-// A first word as it is shown: the columns of the declared places and sets alone, without the row's.
+// A first word as it is shown: the columns of the declared places and sets alone, without the row's or the ring's.
 fn shown(alloc: Global, question: &Question, word: Vec<u32>) -> Result<Vec<u32>, Stop>
     ensures { IfOk result (λ w. w.items ≡ unmarked question.now.others word.items) }
 {

@@ -20,7 +20,7 @@ use trees::tree::Item;
 pub struct Question {
     pub holds: Vec<u8>,
     pub fails: Vec<u8>,
-    /// where the text speaks of a row, how many places and sets it declares: the row is the set behind them
+    /// where the text speaks of a row or a ring, how many places and sets it declares: the row or the ring is the set behind them
     pub others: Option<usize>,
     pub ghost holds_short: { length holds.items ≤ 1024 },
     pub ghost fails_short: { length fails.items ≤ 1024 },
@@ -65,7 +65,7 @@ fn posed(alloc: Global, asked: Asked<'_>, opposite: bool) -> Result<Box<Formula>
     and(alloc, assumed, said)
 }
 
-// The bytes of the claim, or of its opposite, under the assumptions; and where a row is spoken of, how many places and sets are declared besides.
+// The bytes of the claim, or of its opposite, under the assumptions; and where a row or a ring is spoken of, how many places and sets are declared besides.
 fn bytes(alloc: Global, items: &[Item], opposite: bool) -> Result<(Vec<u8>, Option<usize>), Stop>
     ensures short { IfOk result (λ b. length b.0.items ≤ 1024) }
     ensures puts { IfOk result (λ b. Puts (names_of items.now) (λ e. either opposite (FailsOf items.now e) (HoldsOf items.now e)) b.0.items) }

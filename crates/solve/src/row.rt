@@ -1,4 +1,5 @@
-// What is asked of the declared names of a text that speaks of a row: that their places and sets are the row's, and that the row has no hole.
+// What is asked of the declared names of a text that speaks of a row: that their places and sets are the row's, and that the row has no hole. Of a ring the
+// same is asked: its places are those of a row, and it is the text that goes round. What is said here of a row is said of both.
 ghost use Rattle.std.specs.Prelude.{◌≡◌, ◌++◌, ◌↔◌, true, cond, suc, [], IfOk, OnOk};
 ghost use Rattle.claims.specs.Claims.{has};
 ghost use Rattle.formulas.specs.Meaning.{Env, Meaning};

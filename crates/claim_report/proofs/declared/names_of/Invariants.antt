@@ -1,4 +1,4 @@
-use Rattle.std.proofs.Common.{◌≡◌, ◌++◌, map, string_bytes, length}
+use Rattle.std.proofs.Common.{◌≡◌, ◌++◌, map, length}
 use Rattle.claim_report.specs.Named.{names_of}
 use Rattle.claim_report.proofs.declared.names_of.Given as goal
 
