@@ -49,7 +49,7 @@
 //! every ring, of none, or of which first.
 //!
 //! ```
-//! use ceivuron::ring_part::{not, next, some, and, single};
+//! use ceivuron::ring_part::{and, next, not, single, some};
 //! use ceivuron::{Judge, Refused, RingAnswer, RingClaim};
 //!
 //! // Every place has a next one.

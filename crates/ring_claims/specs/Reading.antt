@@ -23,7 +23,7 @@ row_single x = rows.atom (Related (relation.Single x))
 abbrev pub row_next : ℕ → ℕ → RowClaim
 row_next x y = rows.atom (Related (relation.Next x y))
 
--- x has one place, and no other place than the row's last stands alone: the row has one place
+-- x has one place, and there is no place but the row's last: so the row has one place alone
 abbrev pub alone : ℕ → RowClaim
 alone x = rows.and1 (row_single x) (rows.not1 (rows.some x (rows.and1 (row_single x) (rows.not1 (rows.last x)))))
 

@@ -9,7 +9,7 @@ use crate::tree::RingClaim;
 use row_claims::tree::{RowClaim, and, last, next, not, single, some_set};
 use std::alloc::{AllocError, Global};
 
-// Set x has one place, and each place is the row's last: the row has one place.
+// Set x has one place, and there is no place but the row's last: so the row has one place alone.
 fn alone(alloc: Global, x: usize) -> Result<RowClaim, AllocError>
     ensures { IfOk result (λ r. rows.said r ≡ reading.alone x) }
 {

@@ -10,8 +10,9 @@ use ring_claims::atom::RingAtom;
 use ring_claims::sign::{RingSign, read_sign};
 use row_judge::claim_bytes::ClaimBytes;
 
-// The place of y is the next of that of x. The place behind that of x is looked for as y, and the one before that of y as x; of a
-// set that is next to itself it is said that no other place than the row's last stands alone.
+// The place of y is the next of that of x: just behind it, or nothing is behind that of x and nothing before that of y. A place
+// behind that of x is looked for as y, and one before that of y as x. Where x is y, its place is the next of itself: there is no
+// place but the row's last.
 fn put_next(out: &mut ClaimBytes, x: u8, y: u8) -> Option<()>
     ensures put { MatchOption result (1024 < length out.old + length (row_bytes (ring_next x y))) (λ _. out.new ≡ out.old ++ row_bytes (ring_next x y)) }
     ensures few { IfSome result (λ _. length out.new ≤ 1024) }
