@@ -1,5 +1,6 @@
 //! A small reader of rule files, for searches that take no part of the proved code: the bits, whether there is a ring, the
-//! patterns of allowed rows, the limits that count, and the table. What else stands in a file is passed over.
+//! patterns of allowed rows, the limits that count, the table, and other limits as they stand there. What else stands in a
+//! file is passed over.
 
 use std::fs;
 use std::path::Path;
@@ -31,6 +32,9 @@ pub struct Rule {
     pub ring: bool,
     allowed: Vec<Pattern>,
     counts: Vec<Count>,
+    /// The limits that do not count, as formulas.
+    #[allow(dead_code)] // for rings alone
+    pub formulas: Vec<String>,
     /// The lines of the table: a pattern, the bits that are fixed, and whether the module moves.
     table: Vec<(Pattern, Vec<(usize, bool)>, bool)>,
 }
@@ -68,23 +72,29 @@ fn pattern(bits: &[String], text: &str) -> Pattern {
 }
 
 /// Of `|SET| mod MODULUS = REST` the count.
-fn count(bits: &[String], text: &str) -> Count {
+fn count(bits: &[String], text: &str) -> Option<Count> {
     let words: Vec<&str> = text.split_whitespace().collect();
     let [set, "mod", modulus, "=", rest] = words[..] else {
-        panic!("a limit that is no count: {text}");
+        return None;
     };
     let name = set.trim_matches('|');
-    Count {
+    Some(Count {
         bit: (name != "row" && name != "ring").then(|| bit(bits, name)),
         modulus: modulus.parse().unwrap(),
         rest: rest.parse().unwrap(),
-    }
+    })
 }
 
 impl Rule {
     pub fn of(text: &str) -> Rule {
-        let mut rule =
-            Rule { bits: Vec::new(), ring: false, allowed: Vec::new(), counts: Vec::new(), table: Vec::new() };
+        let mut rule = Rule {
+            bits: Vec::new(),
+            ring: false,
+            allowed: Vec::new(),
+            counts: Vec::new(),
+            formulas: Vec::new(),
+            table: Vec::new(),
+        };
         let mut heading = "";
         for line in text.lines().map(|line| line.split('#').next().unwrap().trim()) {
             if let Some(names) = line.strip_prefix("bits:") {
@@ -94,7 +104,10 @@ impl Rule {
             } else if line == "allowed:" || line == "table:" {
                 heading = line;
             } else if let Some(limit) = line.strip_prefix("allowed:") {
-                rule.counts.push(count(&rule.bits, limit));
+                match count(&rule.bits, limit) {
+                    Some(count) => rule.counts.push(count),
+                    None => rule.formulas.push(limit.trim().to_string()),
+                }
             } else if ["never ", "claim ", "row:"].iter().any(|word| line.starts_with(word)) {
                 heading = "";
             } else if heading == "allowed:" && !line.is_empty() {
