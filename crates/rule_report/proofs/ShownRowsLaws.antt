@@ -1,16 +1,16 @@
 -- How the rows after a row, and the rows that are shown, go on by one.
-use Rattle.std.proofs.Common.{◌≡◌, ℕ, zero, suc, ◌+◌, ◌-◌, ◌<◌, Some, false, List, [], ◌∷◌, ◌++◌, length, map, take, get_or, option_map, slice_get, Vec, refl, sym, ap, ◌∙◌, append_assoc, append-nil, add-one, arith}
+use Rattle.std.proofs.Common.{◌≡◌, ℕ, zero, suc, ◌+◌, ◌-◌, ◌<◌, Some, List, [], ◌∷◌, ◌++◌, length, map, take, get_or, option_map, slice_get, Vec, refl, sym, ap, ◌∙◌, append_assoc, append-nil, add-one, arith}
 use Rattle.std.specs.Global.{Global}
 use Rattle.std.proofs.lemmas.List.{length-append, length-map, map-append, take_more, get_or-map, length-take-le}
 use Rattle.std.proofs.lemmas.Option.{slice_get-map}
 use Rattle.words.specs.Words.{Word}
-use Rattle.display.specs.declared.ends.Ends.TheVariants.{Hidden}
+use Rattle.rows.specs.declared.rule.Layout.{Layout}
 use Rattle.display.specs.Marks.{shown}
 use Rattle.diagram.specs.Rows.{IsLastRow}
 use Rattle.diagram.specs.declared.history.History.{History}
 use Rattle.rules.specs.Property.{after}
 use Rattle.rules.specs.declared.rule.Rule.{Rule}
-use Rattle.rule_report.specs.ShownRows.{row_after, rows_from, rows_shown, step_line, Follows}
+use Rattle.rule_report.specs.ShownRows.{ends_of, row_after, rows_from, rows_shown, step_line, Follows}
 
 rows_from-length : (r : Rule) (w : Word) (n : ℕ) → length (rows_from r w n) ≡ suc n
 rows_from-length r w zero = refl
@@ -51,23 +51,23 @@ follows_more r w n old new columns next f l stepped pushed modules =
       modules = modules ∙ f.modules;
     }
 
-rows_shown-append : (names : List (List ℕ)) (ws : List Word) (w : Word) (t u : ℕ) → u ≡ t + length ws
-    → rows_shown names t (ws ++ w ∷ []) ≡ rows_shown names t ws ++ (step_line u ++ shown Hidden names w)
-rows_shown-append names [] w t u at =
+rows_shown-append : (s : Layout) (names : List (List ℕ)) (ws : List Word) (w : Word) (t u : ℕ) → u ≡ t + length ws
+    → rows_shown s names t (ws ++ w ∷ []) ≡ rows_shown s names t ws ++ (step_line u ++ shown (ends_of s) names w)
+rows_shown-append s names [] w t u at =
     let same : u ≡ t = omega arith in
-    rw same (ap (λ (x : List ℕ). step_line t ++ x) (append-nil (shown Hidden names w)))
-rows_shown-append names (v ∷ ws) w t u at =
-    ap (λ (x : List ℕ). step_line t ++ (shown Hidden names v ++ x)) (rows_shown-append names ws w (suc t) u (omega arith))
-    ∙ ap (λ (x : List ℕ). step_line t ++ x) (sym (append_assoc (shown Hidden names v) (rows_shown names (suc t) ws) (step_line u ++ shown Hidden names w)))
-    ∙ sym (append_assoc (step_line t) (shown Hidden names v ++ rows_shown names (suc t) ws) (step_line u ++ shown Hidden names w))
+    rw same (ap (λ (x : List ℕ). step_line t ++ x) (append-nil (shown (ends_of s) names w)))
+rows_shown-append s names (v ∷ ws) w t u at =
+    ap (λ (x : List ℕ). step_line t ++ (shown (ends_of s) names v ++ x)) (rows_shown-append s names ws w (suc t) u (omega arith))
+    ∙ ap (λ (x : List ℕ). step_line t ++ x) (sym (append_assoc (shown (ends_of s) names v) (rows_shown s names (suc t) ws) (step_line u ++ shown (ends_of s) names w)))
+    ∙ sym (append_assoc (step_line t) (shown (ends_of s) names v ++ rows_shown s names (suc t) ws) (step_line u ++ shown (ends_of s) names w))
 
 -- what is shown of the first rows, and of one more
-pub rows_shown-more : (names : List (List ℕ)) (rows : List (Vec ℕ Global)) (i : ℕ) (row : Vec ℕ Global) → i < length rows → row ≡ get_or rows i row
-    → rows_shown names 0 (take i (map (λ v. v.items) rows)) ++ (step_line i ++ shown Hidden names row.items) ≡ rows_shown names 0 (take (i + 1) (map (λ v. v.items) rows))
-rows_shown-more names rows i row within read =
+pub rows_shown-more : (s : Layout) (names : List (List ℕ)) (rows : List (Vec ℕ Global)) (i : ℕ) (row : Vec ℕ Global) → i < length rows → row ≡ get_or rows i row
+    → rows_shown s names 0 (take i (map (λ v. v.items) rows)) ++ (step_line i ++ shown (ends_of s) names row.items) ≡ rows_shown s names 0 (take (i + 1) (map (λ v. v.items) rows))
+rows_shown-more s names rows i row within read =
     let items : Vec ℕ Global → Word = λ v. v.items in
     let size : i < length (map items rows) = rw (length-map rows items) within in
     let here : get_or (map items rows) i row.items ≡ row.items = get_or-map items rows i row row.items within ∙ ap items (sym read) in
     let front : i ≡ length (take i (map items rows)) = sym (length-take-le i (map items rows) (omega arith)) in
-    sym (ap (rows_shown names 0) (take_more (map items rows) i row.items size ∙ ap (λ (x : Word). take i (map items rows) ++ x ∷ []) here)
-    ∙ rows_shown-append names (take i (map items rows)) row.items 0 i (omega (arith, front)))
+    sym (ap (rows_shown s names 0) (take_more (map items rows) i row.items size ∙ ap (λ (x : Word). take i (map items rows) ++ x ∷ []) here)
+    ∙ rows_shown-append s names (take i (map items rows)) row.items 0 i (omega (arith, front)))

@@ -18,7 +18,7 @@ use Rattle.rule_report.specs.Answers.{TrueOf}
 use Rattle.rule_report.specs.Reading.{IsRead, AreClaims}
 use Rattle.rule_report.specs.ShownClaim.{IsShown}
 use Rattle.rule_report.specs.ShownRows.{rows_from, rows_shown, picture_name}
-use Rattle.rule_report.specs.Subjects.{short_of}
+use Rattle.rule_report.specs.Subjects.{given_of, short_of}
 use Rattle.rule_report.specs.Told.{told, Ends}
 
 -- what is asked of the rule: what each rule is asked, and the opposite of each claim
@@ -46,7 +46,7 @@ abbrev pub names_of : Source → List (List ℕ)
 names_of s = map (λ name. name.now) s.bits.names.items
 
 abbrev pub words_of : Source → Part → List ℕ
-words_of s part = told (names_of s) part.subject part.answer ++ (part.ending ++ part.claim)
+words_of s part = told s.bits.layout (names_of s) part.subject part.answer ++ (part.ending ++ part.claim)
 
 -- a first row has a picture
 abbrev pub drawn : Subject → Answer → List (List ℕ)
@@ -71,7 +71,7 @@ pub record Answers (file : List ℕ) (s : Source) (o : Options) (asked : List (S
 
 -- a given row and the rows after it
 abbrev pub given_words : Source → Options → Given → List ℕ
-given_words s o row = codes "  a given row\n" ++ rows_shown (names_of s) 0 (rows_from s.rule row.columns.items o.steps)
+given_words s o row = codes "  " ++ (given_of s.bits.layout ++ (codes "\n" ++ rows_shown s.bits.layout (names_of s) 0 (rows_from s.rule row.columns.items o.steps)))
 
 -- given rows are shown where something is to be seen of them
 abbrev pub shows_given : Options → Bool

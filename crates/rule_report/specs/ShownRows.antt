@@ -1,10 +1,13 @@
 -- A row and the rows after it, how they are shown as rows of marks, and the name of their picture.
-use Rattle.std.specs.Prelude.{◌≡◌, ℕ, zero, suc, ◌==◌, false, List, [], ◌∷◌, ◌++◌, length, map, codes, if◌then◌else◌}
+use Rattle.std.specs.Prelude.{◌≡◌, ℕ, zero, suc, ◌==◌, List, [], ◌∷◌, ◌++◌, length, map, codes, if◌then◌else◌}
 use Rattle.std.specs.Fmt.{decimal}
 use Rattle.words.specs.Words.{Word}
-use Rattle.display.specs.declared.ends.Ends.TheVariants.{Hidden}
+use Rattle.display.specs.declared.ends.Ends.{Ends}
+use Rattle.display.specs.declared.ends.Ends.TheVariants.{Hidden, Seam}
 use Rattle.display.specs.Marks.{shown}
 use Rattle.diagram.specs.declared.history.History.{History}
+use Rattle.rows.specs.declared.rule.Layout.{Layout}
+use Rattle.rows.specs.declared.rule.Layout.TheVariants.{Line, Ring}
 use Rattle.rules.specs.Property.{after}
 use Rattle.rules.specs.declared.rule.Rule.{Rule}
 
@@ -30,10 +33,15 @@ pub record Follows (r : Rule) (w : Word) (n : ℕ) (h : History) : Type 0 where
 abbrev pub step_line : ℕ → List ℕ
 step_line t = if t == 0 then [] else (codes "    after step " ++ (decimal t ++ codes "\n"))
 
+-- a ring is shown with the seam where it is cut
+abbrev pub ends_of : Layout → Ends
+ends_of Line = Hidden
+ends_of Ring = Seam
+
 -- rows as rows of marks, the first of which is that after t steps
-abbrev pub rows_shown : List (List ℕ) → ℕ → List Word → List ℕ
-rows_shown names t [] = []
-rows_shown names t (w ∷ ws) = step_line t ++ (shown Hidden names w ++ rows_shown names (suc t) ws)
+abbrev pub rows_shown : Layout → List (List ℕ) → ℕ → List Word → List ℕ
+rows_shown s names t [] = []
+rows_shown s names t (w ∷ ws) = step_line t ++ (shown (ends_of s) names w ++ rows_shown s names (suc t) ws)
 
 -- the name of the picture with that title that shows what is called so
 abbrev pub picture_name : List ℕ → List ℕ → List ℕ

@@ -1,6 +1,7 @@
 -- The words of an answer.
 use Rattle.std.specs.Prelude.{◌≡◌, ℕ, None, Some, List, [], ◌++◌, codes}
 use Rattle.std.specs.Fmt.{decimal}
+use Rattle.rows.specs.declared.rule.Layout.{Layout}
 use Rattle.trees.specs.Position.{line_of, column_of}
 use Rattle.trees.specs.declared.position.Span.{Span}
 use Rattle.rule_report.specs.declared.answer.Answer.{Answer}
@@ -9,12 +10,12 @@ use Rattle.rule_report.specs.declared.subject.Subject.{Subject}
 use Rattle.rule_report.specs.ShownRows.{rows_of, rows_shown}
 use Rattle.rule_report.specs.Subjects.{name_of, settled_of, found_of}
 
--- what is claimed and what is found, where the bits have these names
-abbrev pub told : List (List ℕ) → Subject → Answer → List ℕ
-told names s Never = codes "  " ++ (name_of s ++ (codes ": " ++ (settled_of s ++ codes "\n")))
-told names s (First h) = codes "  " ++ (name_of s ++ (codes ": " ++ (found_of s ++ (codes " " ++ (decimal h.modules ++ (codes "\n" ++ rows_shown names 0 (rows_of h)))))))
-told names s (TooLarge n place) = codes "  " ++ (name_of s ++ (codes ": too large: more than " ++ (decimal n ++ codes " classes are told apart at ")))
-told names s (Refused e) = codes "  " ++ (name_of s ++ codes ": too large: ")
+-- what is claimed and what is found, where modules lie so and the bits have these names
+abbrev pub told : Layout → List (List ℕ) → Subject → Answer → List ℕ
+told y names s Never = codes "  " ++ (name_of y s ++ (codes ": " ++ (settled_of y s ++ codes "\n")))
+told y names s (First h) = codes "  " ++ (name_of y s ++ (codes ": " ++ (found_of y s ++ (codes " " ++ (decimal h.modules ++ (codes "\n" ++ rows_shown y names 0 (rows_of h)))))))
+told y names s (TooLarge n place) = codes "  " ++ (name_of y s ++ (codes ": too large: more than " ++ (decimal n ++ codes " classes are told apart at ")))
+told y names s (Refused e) = codes "  " ++ (name_of y s ++ codes ": too large: ")
 
 -- the line and the column of a place in the file, and behind them what its line is
 pub record PlacedAt (file text : List ℕ) (span : Span) (words : List ℕ) : Type 0 where

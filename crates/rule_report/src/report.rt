@@ -11,7 +11,7 @@ use crate::options::Options;
 use crate::shown_claim::shown_claim;
 use crate::shown_rows::{Picture, Rows, draw, history, title_of};
 use crate::stop::Stop;
-use crate::subject::Subject;
+use crate::subject::{Subject, given_name};
 use crate::told::{Answered, ending};
 use diagram::history::History;
 use rule_source::claimed::{Claim, claims_of};
@@ -70,14 +70,17 @@ fn given(
     ensures pictures { IfOk result (λ r. picture_names r.pictures.items ≡ map (picture_name asked.entry.title.now) (if asked.entry.options.now.pictures then (codes "row-" ++ decimal number) ∷ [] else [])) }
 {
     let history = history(alloc, asked.source, &row.columns, asked.options.steps)?;
+    let layout = asked.source.bits.layout;
+    let name = given_name(layout);
     let rows = Rows {
+        layout,
         names: &asked.source.bits.names,
         history: &history,
     };
     let short = format!(in alloc; "row-{number}")?;
     Ok(Report {
-        text: format!(in alloc; "  a given row\n{rows}")?,
-        pictures: picture_of(alloc, asked, "a given row", short.as_str(), &history)?,
+        text: format!(in alloc; "  {name}\n{rows}")?,
+        pictures: picture_of(alloc, asked, name, short.as_str(), &history)?,
     })
 }
 
@@ -126,7 +129,7 @@ fn picture_of_answer(
         Answer::First(history) => picture_of(
             alloc,
             asked,
-            subject.name(),
+            subject.name(asked.source.bits.layout),
             subject.short(),
             history,
         ),
@@ -147,6 +150,7 @@ fn answered(
     let source = asked.source;
     let answer = answer_to(alloc, asked, subject, question)?;
     let told = Answered {
+        layout: source.bits.layout,
         subject: *subject,
         names: &source.bits.names,
         answer: &answer,

@@ -1,11 +1,12 @@
 // A row and the rows after it: as rows of marks, and as a picture.
 ghost use Rattle.std.specs.Prelude.{◌≡◌, ◌≤◌, Some, IfOk, map, string_bytes};
-ghost use Rattle.rule_report.specs.ShownRows.{Follows, picture_name, rows_of, rows_shown, step_line};
+ghost use Rattle.rule_report.specs.ShownRows.{Follows, ends_of, picture_name, rows_of, rows_shown, step_line};
 
 use diagram::history::History;
 use diagram::svg::{Diagram, svg};
 use display::ends::Ends;
 use display::marks::Marks;
+use rows::rule::Layout;
 use rule_source::source::Source;
 use simulate::row::step;
 use std::alloc::{AllocError, Global};
@@ -29,7 +30,8 @@ pub fn history(
 {
     let mut history = History::new(alloc, Vec::from_slice(alloc, row)?)?;
     for _t in 0..steps {
-        let next = step(alloc, source.rule.bits, &source.rule.table, history.last())?;
+        let rule = &source.rule;
+        let next = step(alloc, rule.layout, rule.bits, &rule.table, history.last())?;
         history.push(next)?;
     }
     Ok(history)
@@ -52,15 +54,26 @@ impl fmt::Display for StepLine {
     }
 }
 
+// How the ends of a row are shown: a ring's with the seam where it is cut.
+fn ends_of(layout: Layout) -> Ends
+    ensures { result ≡ ends_of layout }
+{
+    match layout {
+        Layout::Line => Ends::Hidden,
+        Layout::Ring => Ends::Seam,
+    }
+}
+
 /// Rows that print as rows of marks, a line for each bit; before each row but the first stands its step.
 #[derive(Clone, Copy)]
 pub struct Rows<'n, 't, 'h> {
+    pub layout: Layout,
     pub names: &'n [&'t str],
     pub history: &'h History,
 }
 
 impl fmt::Display for Rows<'_, '_, '_> {
-    ghost output = { λ rows. Some (rows_shown (map (λ name. name.now) rows.names.now) 0 (rows_of rows.history.now)) };
+    ghost output = { λ rows. Some (rows_shown rows.layout (map (λ name. name.now) rows.names.now) 0 (rows_of rows.history.now)) };
 
     fn fmt<W: fmt::Write>(&self, f: &mut fmt::Formatter<W>) -> fmt::Result {
         for (t, row) in self.history.rows.iter().enumerate() {
@@ -68,7 +81,7 @@ impl fmt::Display for Rows<'_, '_, '_> {
             let marks = Marks {
                 names: self.names,
                 word: row.as_slice(),
-                ends: Ends::Hidden,
+                ends: ends_of(self.layout),
             };
             write!(f, "{step}{marks}")?;
         }

@@ -1,7 +1,8 @@
 // What a report asks of a rule, in words.
 ghost use Rattle.std.specs.Prelude.{◌≡◌};
-ghost use Rattle.rule_report.specs.Subjects.{found_of, name_of, settled_of, short_of, steps_of};
+ghost use Rattle.rule_report.specs.Subjects.{found_of, given_of, name_of, settled_of, short_of, steps_of};
 
+use rows::rule::Layout;
 use rule_file::tree::Statement;
 use rule_source::claimed::Put;
 
@@ -15,16 +16,29 @@ pub enum Subject<'s> {
     Claim(Put, &'s str, &'s Statement),
 }
 
+/// What a given row is called, where modules lie so.
+pub fn given_name(layout: Layout) -> &'static str
+    ensures { result.now ≡ given_of layout }
+{
+    match layout {
+        Layout::Line => "a given row",
+        Layout::Ring => "a given ring",
+    }
+}
+
 impl<'s> Subject<'s> {
-    /// What is claimed.
-    pub fn name(&self) -> &'s str
-        ensures { result.now ≡ name_of self.now }
+    /// What is claimed of rows whose modules lie so.
+    pub fn name(&self, layout: Layout) -> &'s str
+        ensures { result.now ≡ name_of layout self.now }
     {
-        match self {
-            Subject::SomeAllowed => "some row is allowed",
-            Subject::NoneStuck => "no allowed row is stuck",
-            Subject::AllowedKept => "the row after an allowed row is allowed",
-            Subject::Claim(_, name, _) => *name,
+        match (layout, self) {
+            (Layout::Line, Subject::SomeAllowed) => "some row is allowed",
+            (Layout::Line, Subject::NoneStuck) => "no allowed row is stuck",
+            (Layout::Line, Subject::AllowedKept) => "the row after an allowed row is allowed",
+            (Layout::Ring, Subject::SomeAllowed) => "some ring is allowed",
+            (Layout::Ring, Subject::NoneStuck) => "no allowed ring is stuck",
+            (Layout::Ring, Subject::AllowedKept) => "the ring after an allowed ring is allowed",
+            (_, Subject::Claim(_, name, _)) => *name,
         }
     }
 
@@ -41,30 +55,34 @@ impl<'s> Subject<'s> {
     }
 
     /// What is said where no row has the property.
-    pub fn settled(&self) -> &'static str
-        ensures { result.now ≡ settled_of self.now }
+    pub fn settled(&self, layout: Layout) -> &'static str
+        ensures { result.now ≡ settled_of layout self.now }
     {
-        match self {
-            Subject::SomeAllowed => {
+        match (layout, self) {
+            (Layout::Line, Subject::SomeAllowed) => {
                 "no: no row is allowed, of whatever length, so what follows is empty talk"
             }
-            Subject::NoneStuck | Subject::AllowedKept | Subject::Claim(Put::Claim, _, _) => {
+            (Layout::Ring, Subject::SomeAllowed) => {
+                "no: no ring is allowed, of whatever length, so what follows is empty talk"
+            }
+            (_, Subject::NoneStuck | Subject::AllowedKept | Subject::Claim(Put::Claim, _, _)) => {
                 "settled for every length"
             }
-            Subject::Claim(Put::Never, _, _) => "never, settled for every length",
+            (_, Subject::Claim(Put::Never, _, _)) => "never, settled for every length",
         }
     }
 
     /// What is said where a row has it, before the row's length.
-    pub fn found(&self) -> &'static str
-        ensures { result.now ≡ found_of self.now }
+    pub fn found(&self, layout: Layout) -> &'static str
+        ensures { result.now ≡ found_of layout self.now }
     {
-        match self {
-            Subject::SomeAllowed => "yes, the first row has length",
-            Subject::NoneStuck | Subject::AllowedKept | Subject::Claim(Put::Claim, _, _) => {
+        match (layout, self) {
+            (Layout::Line, Subject::SomeAllowed) => "yes, the first row has length",
+            (Layout::Ring, Subject::SomeAllowed) => "yes, the first ring has length",
+            (_, Subject::NoneStuck | Subject::AllowedKept | Subject::Claim(Put::Claim, _, _)) => {
                 "fails, first at length"
             }
-            Subject::Claim(Put::Never, _, _) => "found, first at length",
+            (_, Subject::Claim(Put::Never, _, _)) => "found, first at length",
         }
     }
 

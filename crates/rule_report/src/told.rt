@@ -5,6 +5,7 @@ ghost use Rattle.rule_report.specs.Told.{Ends, PlacedAt, told};
 use crate::answer::Answer;
 use crate::shown_rows::Rows;
 use crate::subject::Subject;
+use rows::rule::Layout;
 use std::alloc::{AllocError, Global};
 use std::fmt;
 use trees::beside::beside;
@@ -13,25 +14,27 @@ use trees::position::{Span, position_of};
 /// An answer that prints as the report has it: what is claimed, what is found, and the rows. Where it is too large, where that is stands behind.
 #[derive(Clone, Copy)]
 pub struct Answered<'u, 'n, 't, 'a> {
+    pub layout: Layout,
     pub subject: Subject<'u>,
     pub names: &'n [&'t str],
     pub answer: &'a Answer,
 }
 
 impl fmt::Display for Answered<'_, '_, '_, '_> {
-    ghost output = { λ answered. Some (told (map (λ name. name.now) answered.names.now) answered.subject answered.answer.now) };
+    ghost output = { λ answered. Some (told answered.layout (map (λ name. name.now) answered.names.now) answered.subject answered.answer.now) };
 
     fn fmt<W: fmt::Write>(&self, f: &mut fmt::Formatter<W>) -> fmt::Result {
-        let name = self.subject.name();
+        let name = self.subject.name(self.layout);
         match self.answer {
             Answer::Never => {
-                let settled = self.subject.settled();
+                let settled = self.subject.settled(self.layout);
                 write!(f, "  {name}: {settled}\n")
             }
             Answer::First(history) => {
-                let found = self.subject.found();
+                let found = self.subject.found(self.layout);
                 let count = history.modules;
                 let rows = Rows {
+                    layout: self.layout,
                     names: self.names,
                     history,
                 };

@@ -20,5 +20,5 @@ returns c =
       ends = c.in_ok-ending.ensures;
       shown = subst (λ r. IsShown a.options.now r property claim) c.requires c.in_ok-claim.ensures;
     })
-    (c.in_ok-format.ensures.ok ∙ ap (λ names. told (map (λ name. name.now) names) subject answer ++ (ending ++ claim)) c.deref.ensures.value)
+    (c.in_ok-format.ensures.ok ∙ ap (λ names. told a.source.now.bits.layout (map (λ name. name.now) names) subject answer ++ (ending ++ claim)) c.deref.ensures.value)
     c.in_ok-picture_of_answer.ensures

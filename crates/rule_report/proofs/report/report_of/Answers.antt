@@ -11,7 +11,8 @@ returns c =
         file = e.file;
         text_is = e.text;
         names = e.names;
-        rule = record { bits = e.bits; patterns = e.patterns; limits = e.limits; lines = e.lines };
+        layout = e.layout;
+        rule = record { bits = e.bits; layout = e.ring; patterns = e.patterns; limits = e.limits; lines = e.lines };
         once = e.once;
         rows = e.rows;
       },

@@ -7,4 +7,4 @@ pub loop-t-preserved : goal.loop-t-preserved
 loop-t-preserved c =
     let r = c.args.source.now.rule in
     follows_more r c.args.row.now c.loop-t._t c.loop-t.history c.push.new.self c.last.result.now c.in_ok-next.next c.loop-t.invariant c.last.ensures.last
-    (c.in_ok-next.ensures.after ∙ ap (λ table. step r.bits table c.last.result.now) c.deref.ensures.value) c.in_ok-push.ensures.ok c.push.ensures.modules
+    (c.in_ok-next.ensures.after ∙ ap (λ table. step r.layout r.bits table c.last.result.now) c.deref.ensures.value) c.in_ok-push.ensures.ok c.push.ensures.modules
