@@ -7,7 +7,7 @@ use crate::rule::Rule;
 use formulas::formula::Formula;
 use formulas::free::free_names;
 use formulas::name::Name;
-use rows::line::Pattern;
+use rows::line::{Line, Pattern};
 use rows::rule::{Asked, Literal};
 use std::alloc::{AllocError, Global};
 
@@ -47,19 +47,32 @@ fn has_group(names: &[Name], x: u32) -> bool
     *name == Name::OfGroup(x) || has_group(rest, x)
 }
 
+/// The bits of modules of so many bits that the patterns or the formulas ask for and that some line of the table changes, rising.
+pub fn changed_of(
+    alloc: Global,
+    bits: u8,
+    patterns: &[Pattern],
+    formulas: &[Formula],
+    table: &[Line],
+) -> Result<Vec<u8>, AllocError>
+    ensures { IfOk result (λ js. js.items ≡ changed bits patterns.now formulas.now table.now) }
+{
+    let names = all_names(alloc, formulas)?;
+    let mut found = Vec::new(alloc);
+    for j in 0..bits {
+        let asked = some_asks(patterns, j) || has_group(&names, j as u32);
+        if asked && !is_unchanged(table, j) {
+            found.push(j)?;
+        }
+    }
+    Ok(found)
+}
+
 /// The bits that the rule's patterns or its limits ask for and that some line of its table changes, rising.
 pub fn changed_bits(alloc: Global, rule: &Rule) -> Result<Vec<u8>, AllocError>
     ensures { IfOk result (λ js. js.items ≡ changed rule.now.bits rule.now.allowed.items rule.now.limits.items rule.now.table.items) }
 {
-    let names = all_names(alloc, &rule.limits)?;
-    let mut bits = Vec::new(alloc);
-    for j in 0..rule.bits {
-        let asked = some_asks(&rule.allowed, j) || has_group(&names, j as u32);
-        if asked && !is_unchanged(&rule.table, j) {
-            bits.push(j)?;
-        }
-    }
-    Ok(bits)
+    changed_of(alloc, rule.bits, &rule.allowed, &rule.limits, &rule.table)
 }
 
 /// The bits of the row after that the formula names, rising: bit j is the set with the number `bits + 1 + j`.

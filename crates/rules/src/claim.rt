@@ -88,8 +88,8 @@ fn some_fault(alloc: Global, rule: &Rule, after: &[u8]) -> Result<Claim, AllocEr
     not(alloc, allowed)
 }
 
-// There are sets that are the listed bits of the row after, and of them the claim holds.
-fn in_next_row(alloc: Global, rule: &Rule, after: &[u8], claim: Claim) -> Result<Claim, AllocError>
+/// There are sets that are the listed bits of the row after, and of them the claim holds.
+pub fn in_next_row(alloc: Global, rule: &Rule, after: &[u8], claim: Claim) -> Result<Claim, AllocError>
     ensures { IfOk result (λ c. said c ≡ Faults.next_claim rule.now.layout rule.now.bits after.now rule.now.table.items (said claim)) }
 {
     let y = Numbers {
@@ -100,8 +100,8 @@ fn in_next_row(alloc: Global, rule: &Rule, after: &[u8], claim: Claim) -> Result
     some_row(alloc, rule.bits, after, step)
 }
 
-// A row, and a claim about it.
-fn row_with(alloc: Global, rule: &Rule, claim: Claim) -> Result<Claim, AllocError>
+/// A row, and a claim about it.
+pub fn row_with(alloc: Global, rule: &Rule, claim: Claim) -> Result<Claim, AllocError>
     ensures { IfOk result (λ c. said c ≡ and1 (is_row rule.now.bits) (said claim)) }
 {
     and(alloc, is_row(alloc, rule.bits)?, claim)

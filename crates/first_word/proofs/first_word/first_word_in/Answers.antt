@@ -3,7 +3,7 @@ use Rattle.std.proofs.lemmas.Grind.{common_steps}
 use Rattle.workspace.specs.Floor.{floor_words}
 use Rattle.lengths.specs.Answer.{First}
 use Rattle.first_word.proofs.FoundLaws.{first_empty, answered}
-use Rattle.first_word.proofs.first_word.first_word.Goals as goal
+use Rattle.first_word.proofs.first_word.first_word_in.Goals as goal
 
 pub returns-in-Always : goal.returns-in-Always
 returns-in-Always c = λ k d claim.
