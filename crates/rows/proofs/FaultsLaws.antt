@@ -1,11 +1,8 @@
 -- Each claim that a rule makes tells of the row that its sets are.
-use Rattle.std.proofs.Common.{◌≡◌, ℕ, suc, ◌-◌, ◌<◌, ◌≤◌, Bool, true, false, not, ◌&&◌, ◌||◌, T, eqb, ltb, ◌⊎◌, ◌↔◌, List, [], ◌∷◌, length, sym, refl, ap, ◌∙◌, inl, inr, arith, lt→ltb, ltb→lt}
-use Rattle.std.proofs.lemmas.Bool.Decides.{eqb_tells}
+use Rattle.std.proofs.Common.{◌≡◌, ℕ, suc, ◌-◌, ◌<◌, ◌≤◌, Bool, true, false, not, ◌&&◌, ◌||◌, T, eqb, ltb, ◌↔◌, List, [], ◌∷◌, length, sym, refl, ap, ◌∙◌, inl, inr, ltb→lt}
 use Rattle.words.specs.Words.{Sets, Word}
 use Rattle.claims.specs.Claims.{Holds, not1, and1}
 use Rattle.claims.proofs.FrontLaws.{both_passed, pass_both}
-use Rattle.formulas.specs.declared.name.Name.{Name}
-use Rattle.formulas.specs.declared.name.Name.TheVariants.{OfPlace, OfGroup}
 use Rattle.formulas.specs.declared.formula.Formula.{Formula}
 use Rattle.formulas.specs.Meaning.{Meaning}
 use Rattle.formulas.specs.Names.{names}
@@ -32,6 +29,7 @@ use Rattle.rows.proofs.RuleLocalLaws.{as_view, fits_eval, allowed_eval, waits_ev
 use Rattle.rows.proofs.Viewing.{Alike, fits_alike, any_alike, moves_alike, view_of, each_place, views}
 use Rattle.rows.proofs.NextLaws.{known, next_says}
 use Rattle.rows.proofs.LimitsLaws.{number_row, with_limits_says, limits_fail_says, stand_next}
+use Rattle.rows.proofs.NamedLaws.{named_row, named_known}
 use Rattle.rows.proofs.LimitsAfterLaws.{all_after, some_after, named_after}
 use Rattle.rows.proofs.StepLaws.{as_long}
 use Rattle.rows.proofs.RowShape.{has_module_says}
@@ -122,35 +120,9 @@ module _ (s : Layout) (b : ℕ) (one_bit : 1 ≤ b) (js : List ℕ) (pss : List 
   asked : T (patterns_ok seen pss) × T (groups_ok (λ x. eqb x b || seen x) (names_of l))
   asked = both_passed (patterns_ok seen pss) (groups_ok (λ x. eqb x b || seen x) (names_of l)) (both_passed (all_below b js) (patterns_ok seen pss && groups_ok (λ x. eqb x b || seen x) (names_of l)) hc).1
 
-  named_known : (l : List Name) → T (groups_ok (λ x. ltb x (suc b)) l) → T (groups_ok (λ x. eqb x b || seen x) l) → T (groups_ok (λ x. eqb x b || known b js R x) l)
-  named_known [] h g = tt
-  named_known (OfPlace x ∷ l) h g = absurd h
-  named_known (OfGroup x ∷ l) h g =
-      let (p, q) = both_passed (ltb x (suc b)) (groups_ok (λ x. ltb x (suc b)) l) h in
-      let (s, t) = both_passed (eqb x b || seen x) (groups_ok (λ x. eqb x b || seen x) l) g in
-      pass_both (eqb x b || known b js R x) (groups_ok (λ x. eqb x b || known b js R x) l) (one (eqb_tells x b) p s) (named_known l q t)
-    where
-      one : ((eqb x b ≡ true) × (x ≡ b)) ⊎ ((eqb x b ≡ false) × (x ≡ b → ⊥)) → T (ltb x (suc b)) → T (eqb x b || seen x) → T (eqb x b || known b js R x)
-      one (inl e) p s = rw e.0 tt
-      one (inr e) p s =
-          let d = e.1 in
-          let m : T (seen x) = rw e.0 at s in
-          rw e.0 (pass_both (ltb x b) (seen x) (lt→ltb x b (let z = ltb→lt x (suc b) p in omega arith)) m)
-
-  named_row : (l : List Name) → T (groups_ok (λ x. ltb x (suc b)) l) → T (groups_ok (λ x. eqb x b || below b x) l)
-  named_row [] h = tt
-  named_row (OfPlace x ∷ l) h = absurd h
-  named_row (OfGroup x ∷ l) h =
-      let (p, q) = both_passed (ltb x (suc b)) (groups_ok (λ x. ltb x (suc b)) l) h in
-      pass_both (eqb x b || below b x) (groups_ok (λ x. eqb x b || below b x) l) (one (eqb_tells x b) p) (named_row l q)
-    where
-      one : ((eqb x b ≡ true) × (x ≡ b)) ⊎ ((eqb x b ≡ false) × (x ≡ b → ⊥)) → T (ltb x (suc b)) → T (eqb x b || below b x)
-      one (inl e) p = rw e.0 tt
-      one (inr e) p = let d = e.1 in rw e.0 (lt→ltb x b (let z = ltb→lt x (suc b) p in omega arith))
-
   module _ (v : Sets) (w : Word) (f : Family v) (g : Gives b (below b) same_number v w) where
     allowed_row : Holds (allowed_part s b same_number pss l) v ↔ AllowedRow s b pss l w
-    allowed_row = with_limits_says b (below b) same_number v w f g (λ x t. ltb→lt x b t) refl l (named_row (names_of l) hl) (each s b (allowed_local b same_number pss)) (allowed_says s b (below b) same_number v w g pss hp)
+    allowed_row = with_limits_says b (below b) same_number v w f g (λ x t. ltb→lt x b t) refl l (named_row b (names_of l) hl) (each s b (allowed_local b same_number pss)) (allowed_says s b (below b) same_number v w g pss hp)
 
     abbrev later : List Formula
     later = limits_after b l
@@ -158,7 +130,7 @@ module _ (s : Layout) (b : ℕ) (one_bit : 1 ≤ b) (js : List ℕ) (pss : List 
     left_row : Holds (next_claim s b js R (fault_part s b (after_number b js) pss later)) v ↔ (AllowedRow s b pss later (step s b R w) → ⊥)
     left_row = next_says b js R bits_below s w hr v f g (fault_part s b (after_number b js) pss later) (AllowedRow s b pss later (step s b R w) → ⊥)
         (λ z fz gz gy.
-        limits_fail_says b (known b js R) (after_number b js) z (step s b R w) fz gy (λ x t. ltb→lt x b (both_passed (ltb x b) (seen x) t).0) (number_row b js bits_below) later (named_known (names_of later) (named_after b (λ x. ltb x (suc b)) l hl) (named_after b (λ x. eqb x b || seen x) l asked.1)) (each s b (allowed_local b (after_number b js) pss)) (somewhere s b (neg (allowed_local b (after_number b js) pss)))
+        limits_fail_says b (known b js R) (after_number b js) z (step s b R w) fz gy (λ x t. ltb→lt x b (both_passed (ltb x b) (seen x) t).0) (number_row b js bits_below) later (named_known b js R (names_of later) (named_after b (λ x. ltb x (suc b)) l hl) (named_after b (λ x. eqb x b || seen x) l asked.1)) (each s b (allowed_local b (after_number b js) pss)) (somewhere s b (neg (allowed_local b (after_number b js) pss)))
         (allowed_says s b (known b js R) (after_number b js) z (step s b R w) gy pss patterns_known) (not_allowed_says s b (known b js R) (after_number b js) z (step s b R w) gy pss patterns_known))
       where
         patterns_known : T (patterns_ok (known b js R) pss)
