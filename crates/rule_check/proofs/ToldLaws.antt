@@ -10,7 +10,7 @@ use Rattle.translation.proofs.Opened.{within_itself}
 use Rattle.rows.specs.RowClaims.{same_number, marked, Tells, First as FirstRow}
 use Rattle.rows.specs.Local.{each}
 use Rattle.rows.specs.RuleLocal.{allowed_local}
-use Rattle.rows.specs.Limits.{row_numbers}
+use Rattle.rows.specs.Limits.{names_of, row_numbers}
 use Rattle.rows.specs.Faults.{allowed_part, fault_part, limits_after, RuleClaims}
 use Rattle.rows.proofs.LimitsAfterLaws.{claimed_after}
 use Rattle.rows.proofs.Telling.{tells as tells_row}
@@ -33,7 +33,7 @@ module _ (r : Rule) where
       let pss = r.allowed.items in
       let l = r.limits.items in
       let R = r.table.items in
-      rule_claims_tell r.layout b (changed b pss l R) pss l R r.one (is_true _ r.patterns) (is_true _ r.names) (is_true _ r.lines) (has_them b pss l R (is_true _ r.patterns) (is_true _ r.names))
+      rule_claims_tell r.layout b (changed b pss l R) pss l R r.one (is_true _ r.patterns) (is_true _ r.names) (is_true _ r.lines) (has_them b pss (names_of l) R (is_true _ r.patterns) (is_true _ r.names))
 
   -- where no line changes a bit that is asked for, no row that is allowed is left: its claim would say that it is allowed and is not
   both_said : (l : List Formula) (v : Sets) → Holds (allowed_part r.layout r.bits same_number r.allowed.items l) v → Holds (fault_part r.layout r.bits same_number r.allowed.items l) v → ⊥

@@ -13,9 +13,9 @@ use Rattle.rows.specs.declared.rule.Literal.{Literal}
 use Rattle.rows.specs.declared.rule.Asked.TheVariants.{There, Bit}
 use Rattle.rows.specs.Rules.{Line}
 use Rattle.rows.specs.RowClaims.{below}
-use Rattle.rows.specs.Limits.{names_of, groups_ok}
-use Rattle.rows.specs.Faults.{asked_ok, literals_ok, patterns_ok, member, unchanged, all_below, has_changed, limits_ok, has_named}
-use Rattle.rules.specs.Changed.{is_bit, asks, some_asks, has_group, passing, is_needed, changed, named_after}
+use Rattle.rows.specs.Limits.{groups_ok}
+use Rattle.rows.specs.Faults.{asked_ok, literals_ok, patterns_ok, member, unchanged, all_below, has_named}
+use Rattle.rules.specs.Changed.{is_bit, asks, some_asks, has_group, passing, is_needed, changed_named, named_after}
 
 or_left : (a b : Bool) → a ≡ true → (a || b) ≡ true
 or_left true b e = refl
@@ -102,29 +102,29 @@ module _ (test : ℕ → Bool) where
   ]
 
 -- the bits that are changed have all that a claim needs
-module _ (b : ℕ) (pss : List (List Literal)) (l : List Formula) (R : List Line) where
+module _ (b : ℕ) (pss : List (List Literal)) (ns : List Name) (R : List Line) where
   abbrev js : List ℕ
-  js = changed b pss l R
+  js = changed_named b pss ns R
 
   needed : (a u : Bool) → a ≡ true → u ≡ false → (a && not u) ≡ true
   needed true false e f = refl
   needed true true e f = absurd (false≢true (sym f))
   needed false u e f = absurd (false≢true e)
 
-  seen : (j : ℕ) (u : Bool) → j < b → (some_asks pss j || has_group (names_of l) j) ≡ true → unchanged R j ≡ u → T (member js j || u)
+  seen : (j : ℕ) (u : Bool) → j < b → (some_asks pss j || has_group (ns) j) ≡ true → unchanged R j ≡ u → T (member js j || u)
   seen j true h a e = is_true _ (or_right (member js j) true refl)
-  seen j false h a e = is_true _ (or_left (member js j) false (passing_has (is_needed pss l R) b j h (needed (some_asks pss j || has_group (names_of l) j) (unchanged R j) a e)))
+  seen j false h a e = is_true _ (or_left (member js j) false (passing_has (is_needed pss ns R) b j h (needed (some_asks pss j || has_group (ns) j) (unchanged R j) a e)))
 
-  named : (x : ℕ) → ((eqb x b ≡ true) × (x ≡ b)) ⊎ ((eqb x b ≡ false) × (x ≡ b → ⊥)) → x < suc b → has_group (names_of l) x ≡ true → T (eqb x b || (member js x || unchanged R x))
+  named : (x : ℕ) → ((eqb x b ≡ true) × (x ≡ b)) ⊎ ((eqb x b ≡ false) × (x ≡ b → ⊥)) → x < suc b → has_group (ns) x ≡ true → T (eqb x b || (member js x || unchanged R x))
   named x (inl p) h e = rw p.0 tt
-  named x (inr p) h e = let d = p.1 in rw p.0 (seen x (unchanged R x) (omega arith) (or_right (some_asks pss x) (has_group (names_of l) x) e) refl)
+  named x (inr p) h e = let d = p.1 in rw p.0 (seen x (unchanged R x) (omega arith) (or_right (some_asks pss x) (has_group (ns) x) e) refl)
 
-  pub has_them : T (patterns_ok (below b) pss) → T (limits_ok b l) → T (has_changed b js pss l R)
+  pub has_them : T (patterns_ok (below b) pss) → T (groups_ok (λ x. ltb x (suc b)) ns) → T (all_below b js && (patterns_ok (λ j. member js j || unchanged R j) pss && groups_ok (λ x. eqb x b || (member js x || unchanged R x)) ns))
   has_them t k =
-      pass_both (all_below b js) (patterns_ok (λ j. member js j || unchanged R j) pss && groups_ok (λ x. eqb x b || (member js x || unchanged R x)) (names_of l)) (passing_below (is_needed pss l R) b b (omega arith))
-      (pass_both (patterns_ok (λ j. member js j || unchanged R j) pss) (groups_ok (λ x. eqb x b || (member js x || unchanged R x)) (names_of l))
-      (more_patterns (λ j. member js j || unchanged R j) pss (below b) t (λ j m e. seen j (unchanged R j) (ltb→lt j b m) (or_left (some_asks pss j) (has_group (names_of l) j) e) refl))
-      (more_groups (λ x. ltb x (suc b)) (λ x. eqb x b || (member js x || unchanged R x)) (names_of l) k (λ x m e. named x (eqb_tells x b) (ltb→lt x (suc b) m) e)))
+      pass_both (all_below b js) (patterns_ok (λ j. member js j || unchanged R j) pss && groups_ok (λ x. eqb x b || (member js x || unchanged R x)) (ns)) (passing_below (is_needed pss ns R) b b (omega arith))
+      (pass_both (patterns_ok (λ j. member js j || unchanged R j) pss) (groups_ok (λ x. eqb x b || (member js x || unchanged R x)) (ns))
+      (more_patterns (λ j. member js j || unchanged R j) pss (below b) t (λ j m e. seen j (unchanged R j) (ltb→lt j b m) (or_left (some_asks pss j) (has_group (ns) j) e) refl))
+      (more_groups (λ x. ltb x (suc b)) (λ x. eqb x b || (member js x || unchanged R x)) (ns) k (λ x m e. named x (eqb_tells x b) (ltb→lt x (suc b) m) e)))
 
 -- and so have the bits of the row after that a formula names
 pub has_named_them : (b : ℕ) (a : Formula) → T (groups_ok (λ x. ltb x (suc (b + b))) (names a)) → T (has_named b (named_after b a) a)

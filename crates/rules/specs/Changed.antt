@@ -32,12 +32,16 @@ abbrev pub passing : (ℕ → Bool) → ℕ → List ℕ
 passing test zero = []
 passing test (suc n) = passing test n ++ cond (test n) (n ∷ []) []
 
--- the patterns or the limits ask for the bit, and some line changes it
-abbrev pub is_needed : List (List Literal) → List Formula → List Line → ℕ → Bool
-is_needed pss l R j = (some_asks pss j || has_group (names_of l) j) && not (unchanged R j)
+-- the patterns or the names ask for the bit, and some line changes it
+abbrev pub is_needed : List (List Literal) → List Name → List Line → ℕ → Bool
+is_needed pss ns R j = (some_asks pss j || has_group ns j) && not (unchanged R j)
 
+abbrev pub changed_named : ℕ → List (List Literal) → List Name → List Line → List ℕ
+changed_named b pss ns R = passing (is_needed pss ns R) b
+
+-- the patterns or the limits ask for it
 abbrev pub changed : ℕ → List (List Literal) → List Formula → List Line → List ℕ
-changed b pss l R = passing (is_needed pss l R) b
+changed b pss l R = changed_named b pss (names_of l) R
 
 -- the bits of the row after that the formula names
 abbrev pub named_after : ℕ → Formula → List ℕ

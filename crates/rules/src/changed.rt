@@ -1,6 +1,6 @@
 // The bits of the row after that a claim needs.
 ghost use Rattle.std.specs.Prelude.{◌≡◌, IfOk, IsTrue};
-ghost use Rattle.rules.specs.Changed.{is_bit, asks, some_asks, has_group, changed, named_after};
+ghost use Rattle.rules.specs.Changed.{is_bit, asks, some_asks, has_group, changed, changed_named, named_after};
 
 use crate::known::{all_names, is_unchanged};
 use crate::rule::Rule;
@@ -47,20 +47,19 @@ fn has_group(names: &[Name], x: u32) -> bool
     *name == Name::OfGroup(x) || has_group(rest, x)
 }
 
-/// The bits of modules of so many bits that the patterns or the formulas ask for and that some line of the table changes, rising.
-pub fn changed_of(
+/// The bits of modules of so many bits that the patterns or the names ask for and that some line of the table changes, rising.
+pub fn changed_named(
     alloc: Global,
     bits: u8,
     patterns: &[Pattern],
-    formulas: &[Formula],
+    names: &[Name],
     table: &[Line],
 ) -> Result<Vec<u8>, AllocError>
-    ensures { IfOk result (λ js. js.items ≡ changed bits patterns.now formulas.now table.now) }
+    ensures { IfOk result (λ js. js.items ≡ changed_named bits patterns.now names.now table.now) }
 {
-    let names = all_names(alloc, formulas)?;
     let mut found = Vec::new(alloc);
     for j in 0..bits {
-        let asked = some_asks(patterns, j) || has_group(&names, j as u32);
+        let asked = some_asks(patterns, j) || has_group(names, j as u32);
         if asked && !is_unchanged(table, j) {
             found.push(j)?;
         }
@@ -72,7 +71,8 @@ pub fn changed_of(
 pub fn changed_bits(alloc: Global, rule: &Rule) -> Result<Vec<u8>, AllocError>
     ensures { IfOk result (λ js. js.items ≡ changed rule.now.bits rule.now.allowed.items rule.now.limits.items rule.now.table.items) }
 {
-    changed_of(alloc, rule.bits, &rule.allowed, &rule.limits, &rule.table)
+    let names = all_names(alloc, &rule.limits)?;
+    changed_named(alloc, rule.bits, &rule.allowed, &names, &rule.table)
 }
 
 /// The bits of the row after that the formula names, rising: bit j is the set with the number `bits + 1 + j`.
