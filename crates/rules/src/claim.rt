@@ -89,7 +89,12 @@ fn some_fault(alloc: Global, rule: &Rule, after: &[u8]) -> Result<Claim, AllocEr
 }
 
 /// There are sets that are the listed bits of the row after, and of them the claim holds.
-pub fn in_next_row(alloc: Global, rule: &Rule, after: &[u8], claim: Claim) -> Result<Claim, AllocError>
+pub fn in_next_row(
+    alloc: Global,
+    rule: &Rule,
+    after: &[u8],
+    claim: Claim,
+) -> Result<Claim, AllocError>
     ensures { IfOk result (λ c. said c ≡ Faults.next_claim rule.now.layout rule.now.bits after.now rule.now.table.items (said claim)) }
 {
     let y = Numbers {
