@@ -1,11 +1,11 @@
 -- From what is found of a property's claim to what is told of rows.
-use Rattle.std.proofs.Common.{◌≡◌, ℕ, suc, ◌+◌, ◌<◌, ◌≤◌, List, [], ◌∷◌, sym, subst}
+use Rattle.std.proofs.Common.{ℕ, suc, ◌+◌, ◌<◌, ◌≤◌, List, [], ◌∷◌, sym, subst, arith}
 use Rattle.words.specs.Words.{Sets, Word, Columns, sets}
-use Rattle.claims.specs.Claims.{Holds, not1, within as lies_within}
+use Rattle.claims.specs.Claims.{C, Holds, not1, within as lies_within}
 use Rattle.formulas.specs.declared.formula.Formula.{Formula}
 use Rattle.claims.specs.Rows.{row}
 use Rattle.claims.specs.Encoded.{sets_needed}
-use Rattle.workspace.specs.Floor.{NoRoom}
+use Rattle.workspace.specs.Floor.{NoRoomIn}
 use Rattle.translation.proofs.Opened.{within_itself}
 use Rattle.rows.specs.RowClaims.{same_number, marked, Tells, First as FirstRow}
 use Rattle.rows.specs.Local.{each}
@@ -21,9 +21,12 @@ use Rattle.rules.proofs.ChangedLaws.{is_true, has_them, has_named_them}
 use Rattle.rules.specs.declared.rule.Rule.{Rule}
 use Rattle.rules.specs.declared.property.Property.{Property}
 use Rattle.rules.specs.declared.property.Property.TheVariants.{Allowed, Stuck, Left, Met, Fails}
-use Rattle.rule_check.specs.Told.{Found, Told, TooMany}
+use Rattle.rule_check.specs.Told.{Found, Judged, Answered, TooManyIn}
 use Rattle.rule_check.specs.declared.verdict.Verdict.{Verdict}
 use Rattle.rule_check.specs.declared.verdict.Verdict.TheVariants.{Never, First, TooLarge}
+
+above : (b : ℕ) (c : C) → b < sets_needed (suc b) c
+above b c = omega arith
 
 -- a property's claim tells of the rows that have it
 module _ (r : Rule) where
@@ -54,13 +57,19 @@ module _ (r : Rule) where
   tells (Met q) n = all_tell.place q (is_true _ n)
   tells (Fails a) n = all_tell.fails (named_after r.bits a.value) a.value (has_named_them r.bits a.value (is_true _ n))
 
-pub told : (r : Rule) (p : Property) (k most n : ℕ) (v : Verdict) → IsOf r p → r.bits < k → k ≡ sets_needed (suc r.bits) (claim_of r p) → n ≤ most → (n < most → NoRoom (k ∷ row (claim_of r p)) (n + 1)) →
-    Found r.bits k (claim_of r p) n v → Told r p most v
-told r p k most n Never h l e within memory f = (tells r p h).never k l f
-told r p k most n (First w) h l e within memory f =
+-- from what is found of a claim with n classes, as many as there may be, to what is judged of it
+pub judged : (m b : ℕ) (c : C) (most n : ℕ) (v : Verdict) → n ≤ most → (n < most → NoRoomIn m (sets_needed (suc b) c ∷ row c) (n + 1)) → Found b (sets_needed (suc b) c) c n v → Judged m b c most v
+judged m b c most n Never within memory f = f
+judged m b c most n (First r) within memory f = f
+judged m b c most n (TooLarge l) within memory f =
+    let j : TooManyIn m (sets_needed (suc b) c) c most n = record { many = f.1; within = within; memory = memory } in
+    subst (TooManyIn m (sets_needed (suc b) c) c most) (sym f.0) j
+
+-- of a claim that tells of the rows that have a property, what is judged is an answer on it
+pub answered : (m b : ℕ) (P : Word → Type 0) (c : C) (most : ℕ) (v : Verdict) → Tells b c P → Judged m b c most v → Answered m b P c most v
+answered m b P c most Never t f = t.never (sets_needed (suc b) c) (above b c) f
+answered m b P c most (First r) t f =
     let (u, i, same) = f in
-    let (x, q, s) = (tells r p h).first k l u i in
-    subst (FirstRow r.bits (Has r p)) (sym (same x s.columns q)) s
-told r p k most n (TooLarge m) h l e within memory f =
-    let j : TooMany k (claim_of r p) most n = record { many = f.1; within = within; memory = memory } in
-    subst (λ t. TooMany t (claim_of r p) most m) e (subst (TooMany k (claim_of r p) most) (sym f.0) j)
+    let (x, q, s) = t.first (sets_needed (suc b) c) (above b c) u i in
+    subst (FirstRow b P) (sym (same x s.columns q)) s
+answered m b P c most (TooLarge n) t f = f
