@@ -66,7 +66,7 @@ fn push_step(
     beside: Beside,
     row: &[u32],
 ) -> Result<(), AllocError>
-    requires { bits ≤ 8 }
+    requires { bits ≤ 11 }
     ensures { OnOk result (after.new.items ≡ after.old.items ++ Rows.step_between bits table.now (place_of beside.left) row.now (place_of beside.right)) }
 {
     let [a, rest @ ..] = row else {
@@ -105,7 +105,7 @@ fn stepped(
     table: &[Line],
     row: &[u32],
 ) -> Result<Vec<u32>, AllocError>
-    requires { bits ≤ 8 }
+    requires { bits ≤ 11 }
     ensures { IfOk result (λ after. after.items ≡ Rows.step layout bits table.now row.now) }
 {
     let mut after = Vec::new(alloc);
@@ -121,7 +121,7 @@ pub fn step(
     table: &[Line],
     row: &[u32],
 ) -> Result<Vec<u32>, AllocError>
-    requires { bits ≤ 8 }
+    requires { bits ≤ 11 }
     ensures after { IfOk result (λ after. after.items ≡ Rows.step layout bits table.now row.now) }
     ensures modules { IfOk result (λ after. length after.items ≡ length row.now) }
 {

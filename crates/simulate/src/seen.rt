@@ -108,7 +108,7 @@ impl Seen {
 
     // The module after the step: its bits from j on, so many of them.
     pub fn after(&self, table: &[Line], j: u8, count: u8) -> u32
-        requires { j + count ≤ 8 }
+        requires { j + count ≤ 11 }
         ensures column { result ≡ packed count (Rules.bit_after table.now (view_of self.now)) j }
         ensures fits { result < 2 ^ count }
     {
