@@ -54,6 +54,15 @@ fn table_line<'a>(alloc: Global, tokens: &'a [Token]) -> Result<(Statement, &'a 
     Ok((Statement::Line(when, arrow, effects), rest))
 }
 
+// `start:` and its formula.
+fn start<'a>(tokens: &'a [Token]) -> Result<(Statement, &'a [Token]), Fault>
+    ensures { IfOk result (λ r. statement_tokens r.0 ++ r.1.now ≡ tokens.now) }
+{
+    let (heading, rest) = heading(tokens, Kind::Start, Wanted::Statement)?;
+    let (formula, rest) = token(rest, Kind::Formula, Wanted::Formula)?;
+    Ok((Statement::Start(heading, formula), rest))
+}
+
 fn never<'a>(alloc: Global, tokens: &'a [Token]) -> Result<(Statement, &'a [Token]), Fault>
     ensures { IfOk result (λ r. statement_tokens r.0 ++ r.1.now ≡ tokens.now) }
 {
@@ -68,6 +77,14 @@ fn claim<'a>(tokens: &'a [Token]) -> Result<(Statement, &'a [Token]), Fault>
     let (named, rest) = named(tokens, Kind::Claim)?;
     let (formula, rest) = token(rest, Kind::Formula, Wanted::Formula)?;
     Ok((Statement::Claim(named, formula), rest))
+}
+
+fn kept<'a>(tokens: &'a [Token]) -> Result<(Statement, &'a [Token]), Fault>
+    ensures { IfOk result (λ r. statement_tokens r.0 ++ r.1.now ≡ tokens.now) }
+{
+    let (named, rest) = named(tokens, Kind::Kept)?;
+    let (formula, rest) = token(rest, Kind::Formula, Wanted::Formula)?;
+    Ok((Statement::Kept(named, formula), rest))
 }
 
 fn row<'a>(alloc: Global, tokens: &'a [Token]) -> Result<(Statement, &'a [Token]), Fault>
@@ -132,8 +149,10 @@ pub fn statement<'a>(
             let (heading, rest) = heading(tokens, Kind::Table, Wanted::Statement)?;
             Ok((Statement::Table(heading), rest))
         }
+        Kind::Start => start(tokens),
         Kind::Never => never(alloc, tokens),
         Kind::Claim => claim(tokens),
+        Kind::Kept => kept(tokens),
         Kind::Row => row(alloc, tokens),
         _ => in_section(alloc, section, tokens),
     }
