@@ -12,5 +12,5 @@ loop-rest-preserved c =
     let pushed = chosen _ _ _ _ c.push.ensures.items (ap is_ok c.in_ok-push.was) in
     record {
       words = grind (arith, common_steps, written_more);
-      kinds = subst (λ (ls : List Line). HaveWords ls) (sym pushed) (lines_more c.loop-rest.all.items c.in_ok-line.read c.loop-rest.invariant.kinds c.in_ok-line.ensures.kind);
+      kinds = subst (λ (ls : List Line). HaveWords ls) (sym pushed) (lines_more c.loop-rest.all.items c.in_ok-read.read c.loop-rest.invariant.kinds c.in_ok-read.ensures.kind);
     }
