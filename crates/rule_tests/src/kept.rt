@@ -14,7 +14,7 @@ allowed: row sub tray
 table:
   * | tray | * -> !tray moves
 kept full: row sub tray
-start: tray sub { }
+start: tray sub empty
 kept tray_there: tray sub row
 never tray_alone: none | tray | none
 ";
