@@ -46,8 +46,10 @@ statement_some (statement.Limit h f) = omega arith
 statement_some (statement.Pattern p) = pattern_some p
 statement_some (statement.Table h) = omega arith
 statement_some (statement.Line p a e) = inner_some (pattern_tokens p) a (effects_tokens e)
+statement_some (statement.Start h f) = omega arith
 statement_some (statement.Never n p) = omega arith
 statement_some (statement.Claim n f) = omega arith
+statement_some (statement.Kept n f) = omega arith
 statement_some (statement.Row h ms) = omega arith
 
 pub line_some : (l : Line) → 0 < length (line_tokens l)

@@ -11,6 +11,7 @@ use Rattle.rule_file.specs.declared.tree.Line.{Line}
 abbrev pub claim_name : Statement → Option Token
 claim_name (statement.Never n p) = Some n.name
 claim_name (statement.Claim n f) = Some n.name
+claim_name (statement.Kept n f) = Some n.name
 claim_name _ = None
 
 abbrev pub claim_names : List Line → List Token

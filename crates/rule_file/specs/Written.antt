@@ -69,8 +69,10 @@ statement_tokens (statement.Limit h f) = heading_tokens h ++ f ∷ []
 statement_tokens (statement.Pattern p) = pattern_tokens p
 statement_tokens (statement.Table h) = heading_tokens h
 statement_tokens (statement.Line p a e) = pattern_tokens p ++ a ∷ effects_tokens e
+statement_tokens (statement.Start h f) = heading_tokens h ++ f ∷ []
 statement_tokens (statement.Never n p) = named_tokens n ++ pattern_tokens p
 statement_tokens (statement.Claim n f) = named_tokens n ++ f ∷ []
+statement_tokens (statement.Kept n f) = named_tokens n ++ f ∷ []
 statement_tokens (statement.Row h ms) = heading_tokens h ++ flat_map module_tokens ms.items
 
 abbrev pub line_tokens : Line → List Token

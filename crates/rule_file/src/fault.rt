@@ -74,7 +74,8 @@ impl Wanted {
     fn words(self) -> &'static str {
         match self {
             Wanted::Bits => "`bits:` with the names of a module's bits",
-            Wanted::Statement => "`allowed:`, `table:`, `never`, `claim` or `row:`",
+            Wanted::Statement =>
+                "`allowed:`, `table:`, `start:`, `never`, `claim`, `kept` or `row:`",
             Wanted::Colon => "`:`",
             Wanted::Name => "a name",
             Wanted::NameOrEnd => "a name or the end of the line",
@@ -102,8 +103,10 @@ fn is_word(kind: Kind) -> bool {
         | Kind::Ring
         | Kind::Allowed
         | Kind::Table
+        | Kind::Start
         | Kind::Never
         | Kind::Claim
+        | Kind::Kept
         | Kind::Row
         | Kind::Module
         | Kind::Missing

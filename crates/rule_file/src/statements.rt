@@ -1,5 +1,6 @@
 // Reads statements: one by the word that it begins with, or by the section in which it stands.
 ghost use Rattle.std.specs.Prelude.{◌≡◌, ◌++◌, IfOk};
+ghost use Rattle.rule_file.specs.Kinds.{HasWord};
 ghost use Rattle.rule_file.specs.Written.{heading_tokens, named_tokens, statement_tokens};
 
 use crate::cursor::{expected, front, token};
@@ -17,7 +18,8 @@ pub fn heading<'a>(
     kind: Kind,
     wanted: Wanted,
 ) -> Result<(Heading, &'a [Token]), Fault>
-    ensures { IfOk result (λ r. heading_tokens r.0 ++ r.1.now ≡ tokens.now) }
+    ensures words { IfOk result (λ r. heading_tokens r.0 ++ r.1.now ≡ tokens.now) }
+    ensures kind { IfOk result (λ r. r.0.word.kind ≡ kind) }
 {
     let (word, rest) = token(tokens, kind, wanted)?;
     let (colon, rest) = token(rest, Kind::Colon, Wanted::Colon)?;
@@ -26,7 +28,8 @@ pub fn heading<'a>(
 
 // A word of that kind, a name and a colon.
 fn named<'a>(tokens: &'a [Token], kind: Kind) -> Result<(Named, &'a [Token]), Fault>
-    ensures { IfOk result (λ r. named_tokens r.0 ++ r.1.now ≡ tokens.now) }
+    ensures words { IfOk result (λ r. named_tokens r.0 ++ r.1.now ≡ tokens.now) }
+    ensures kind { IfOk result (λ r. r.0.word.kind ≡ kind) }
 {
     let (word, rest) = token(tokens, kind, Wanted::Statement)?;
     let (name, rest) = token(rest, Kind::Name, Wanted::Name)?;
@@ -36,7 +39,8 @@ fn named<'a>(tokens: &'a [Token], kind: Kind) -> Result<(Named, &'a [Token]), Fa
 
 // `allowed:`, with or without a formula.
 fn allowed<'a>(tokens: &'a [Token]) -> Result<(Statement, &'a [Token]), Fault>
-    ensures { IfOk result (λ r. statement_tokens r.0 ++ r.1.now ≡ tokens.now) }
+    ensures words { IfOk result (λ r. statement_tokens r.0 ++ r.1.now ≡ tokens.now) }
+    ensures kind { IfOk result (λ r. HasWord r.0) }
 {
     let (heading, rest) = heading(tokens, Kind::Allowed, Wanted::Statement)?;
     match front(rest, Kind::Formula) {
@@ -46,7 +50,8 @@ fn allowed<'a>(tokens: &'a [Token]) -> Result<(Statement, &'a [Token]), Fault>
 }
 
 fn table_line<'a>(alloc: Global, tokens: &'a [Token]) -> Result<(Statement, &'a [Token]), Fault>
-    ensures { IfOk result (λ r. statement_tokens r.0 ++ r.1.now ≡ tokens.now) }
+    ensures words { IfOk result (λ r. statement_tokens r.0 ++ r.1.now ≡ tokens.now) }
+    ensures kind { IfOk result (λ r. HasWord r.0) }
 {
     let (when, rest) = pattern(alloc, tokens)?;
     let (arrow, rest) = token(rest, Kind::Arrow, Wanted::TermOrArrow)?;
@@ -54,8 +59,19 @@ fn table_line<'a>(alloc: Global, tokens: &'a [Token]) -> Result<(Statement, &'a 
     Ok((Statement::Line(when, arrow, effects), rest))
 }
 
+// `start:` and its formula.
+fn start<'a>(tokens: &'a [Token]) -> Result<(Statement, &'a [Token]), Fault>
+    ensures words { IfOk result (λ r. statement_tokens r.0 ++ r.1.now ≡ tokens.now) }
+    ensures kind { IfOk result (λ r. HasWord r.0) }
+{
+    let (heading, rest) = heading(tokens, Kind::Start, Wanted::Statement)?;
+    let (formula, rest) = token(rest, Kind::Formula, Wanted::Formula)?;
+    Ok((Statement::Start(heading, formula), rest))
+}
+
 fn never<'a>(alloc: Global, tokens: &'a [Token]) -> Result<(Statement, &'a [Token]), Fault>
-    ensures { IfOk result (λ r. statement_tokens r.0 ++ r.1.now ≡ tokens.now) }
+    ensures words { IfOk result (λ r. statement_tokens r.0 ++ r.1.now ≡ tokens.now) }
+    ensures kind { IfOk result (λ r. HasWord r.0) }
 {
     let (named, rest) = named(tokens, Kind::Never)?;
     let (pattern, rest) = pattern(alloc, rest)?;
@@ -63,15 +79,26 @@ fn never<'a>(alloc: Global, tokens: &'a [Token]) -> Result<(Statement, &'a [Toke
 }
 
 fn claim<'a>(tokens: &'a [Token]) -> Result<(Statement, &'a [Token]), Fault>
-    ensures { IfOk result (λ r. statement_tokens r.0 ++ r.1.now ≡ tokens.now) }
+    ensures words { IfOk result (λ r. statement_tokens r.0 ++ r.1.now ≡ tokens.now) }
+    ensures kind { IfOk result (λ r. HasWord r.0) }
 {
     let (named, rest) = named(tokens, Kind::Claim)?;
     let (formula, rest) = token(rest, Kind::Formula, Wanted::Formula)?;
     Ok((Statement::Claim(named, formula), rest))
 }
 
+fn kept<'a>(tokens: &'a [Token]) -> Result<(Statement, &'a [Token]), Fault>
+    ensures words { IfOk result (λ r. statement_tokens r.0 ++ r.1.now ≡ tokens.now) }
+    ensures kind { IfOk result (λ r. HasWord r.0) }
+{
+    let (named, rest) = named(tokens, Kind::Kept)?;
+    let (formula, rest) = token(rest, Kind::Formula, Wanted::Formula)?;
+    Ok((Statement::Kept(named, formula), rest))
+}
+
 fn row<'a>(alloc: Global, tokens: &'a [Token]) -> Result<(Statement, &'a [Token]), Fault>
-    ensures { IfOk result (λ r. statement_tokens r.0 ++ r.1.now ≡ tokens.now) }
+    ensures words { IfOk result (λ r. statement_tokens r.0 ++ r.1.now ≡ tokens.now) }
+    ensures kind { IfOk result (λ r. HasWord r.0) }
 {
     let (heading, rest) = heading(tokens, Kind::Row, Wanted::Statement)?;
     let (modules, rest) = modules(alloc, rest)?;
@@ -101,7 +128,8 @@ fn in_section<'a>(
     section: Section,
     tokens: &'a [Token],
 ) -> Result<(Statement, &'a [Token]), Fault>
-    ensures { IfOk result (λ r. statement_tokens r.0 ++ r.1.now ≡ tokens.now) }
+    ensures words { IfOk result (λ r. statement_tokens r.0 ++ r.1.now ≡ tokens.now) }
+    ensures kind { IfOk result (λ r. HasWord r.0) }
 {
     match section {
         Section::Outside => Err(expected(Wanted::Statement, tokens)),
@@ -119,7 +147,8 @@ pub fn statement<'a>(
     section: Section,
     tokens: &'a [Token],
 ) -> Result<(Statement, &'a [Token]), Fault>
-    ensures { IfOk result (λ r. statement_tokens r.0 ++ r.1.now ≡ tokens.now) }
+    ensures words { IfOk result (λ r. statement_tokens r.0 ++ r.1.now ≡ tokens.now) }
+    ensures kind { IfOk result (λ r. HasWord r.0) }
 {
     let Some(first) = tokens.first() else {
         return Err(expected(Wanted::Statement, tokens));
@@ -132,8 +161,10 @@ pub fn statement<'a>(
             let (heading, rest) = heading(tokens, Kind::Table, Wanted::Statement)?;
             Ok((Statement::Table(heading), rest))
         }
+        Kind::Start => start(tokens),
         Kind::Never => never(alloc, tokens),
         Kind::Claim => claim(tokens),
+        Kind::Kept => kept(tokens),
         Kind::Row => row(alloc, tokens),
         _ => in_section(alloc, section, tokens),
     }

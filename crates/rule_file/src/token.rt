@@ -1,7 +1,7 @@
 // The tokens of a rule file: words, signs, formulas and the ends of lines. Blanks, and comments from `#` to the end of the line, stand between them.
 //
-// A formula is one token, from the first byte behind the colon of `claim NAME:` or `allowed:` to the last word on that line. Where a bracket is open
-// at the end of a line it goes on in the next one. So the lexer keeps where in a line it stands (`Stage`).
+// A formula is one token, from the first byte behind the colon of `claim NAME:`, `kept NAME:`, `allowed:` or `start:` to the last word on that line.
+// Where a bracket is open at the end of a line it goes on in the next one. So the lexer keeps where in a line it stands (`Stage`).
 ghost use Rattle.std.specs.Prelude.{◌≡◌, ℕ, ◌+◌, ◌<◌, ◌≤◌, IsTrue, IfOk, length, take, drop};
 ghost use Rattle.std.specs.List.{prefix_len};
 ghost use Rattle.rule_file.specs.Gaps.{in_line_byte, is_gap, ends_line};
@@ -19,8 +19,10 @@ pub enum Kind {
     Ring,
     Allowed,
     Table,
+    Start,
     Never,
     Claim,
+    Kept,
     Row,
     Module,
     Missing,
@@ -52,9 +54,9 @@ pub struct Token {
 #[derive(Clone, Copy, PartialEq, Eq)]
 enum Stage {
     Start,
-    // behind `claim`
+    // behind `claim` or `kept`
     Claim,
-    // behind `allowed` or `claim NAME`
+    // behind `allowed` or `start`, and behind the name of a claim
     Heading,
     // behind the colon of such a heading
     Formula,
@@ -64,8 +66,8 @@ enum Stage {
 fn stage_behind(stage: Stage, kind: Kind) -> Stage {
     match (stage, kind) {
         (_, Kind::LineEnd) => Stage::Start,
-        (Stage::Start, Kind::Allowed) => Stage::Heading,
-        (Stage::Start, Kind::Claim) => Stage::Claim,
+        (Stage::Start, Kind::Allowed | Kind::Start) => Stage::Heading,
+        (Stage::Start, Kind::Claim | Kind::Kept) => Stage::Claim,
         (Stage::Claim, _) => Stage::Heading,
         (Stage::Heading, Kind::Colon) => Stage::Formula,
         _ => Stage::Inside,
@@ -73,13 +75,15 @@ fn stage_behind(stage: Stage, kind: Kind) -> Stage {
 }
 
 // The words that mean something in a rule file.
-const WORDS: [(&[u8], Kind); 13] = [
+const WORDS: [(&[u8], Kind); 15] = [
     (b"bits", Kind::Bits),
     (b"ring", Kind::Ring),
     (b"allowed", Kind::Allowed),
     (b"table", Kind::Table),
+    (b"start", Kind::Start),
     (b"never", Kind::Never),
     (b"claim", Kind::Claim),
+    (b"kept", Kind::Kept),
     (b"row", Kind::Row),
     (b"module", Kind::Module),
     (b"none", Kind::Missing),

@@ -96,8 +96,11 @@ pub enum Statement {
     Table(Heading),
     // a pattern, the arrow, and what it does
     Line(Pattern, Token, Effects),
+    // what a run may begin with
+    Start(Heading, Token),
     Never(Named, Pattern),
     Claim(Named, Token),
+    Kept(Named, Token),
     Row(Heading, Vec<Module>),
 }
 
@@ -176,12 +179,14 @@ impl Change {
 }
 
 impl Statement {
-    /// The name of a claim, at `never` and `claim`.
+    /// The name of a claim, at `never`, `claim` and `kept`.
     pub fn claim_name(&self) -> Option<Token>
         ensures { result ≡ claim_name self.now }
     {
         match self {
-            Statement::Never(named, _) | Statement::Claim(named, _) => Some(named.name),
+            Statement::Never(named, _) | Statement::Claim(named, _) | Statement::Kept(named, _) => {
+                Some(named.name)
+            }
             _ => None,
         }
     }

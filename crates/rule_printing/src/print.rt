@@ -144,11 +144,15 @@ fn put_statement(out: &mut String, text: &str, statement: &Statement) -> Result<
             out.push_str(" -> ")?;
             put_effects(out, text, effects)?;
         }
+        Statement::Start(_, formula) => {
+            out.push_str("start: ")?;
+            put(out, text, *formula)?;
+        }
         Statement::Never(named, pattern) => {
             put_named(out, text, named)?;
             put_pattern(out, text, pattern)?;
         }
-        Statement::Claim(named, formula) => {
+        Statement::Claim(named, formula) | Statement::Kept(named, formula) => {
             put_named(out, text, named)?;
             put(out, text, *formula)?;
         }

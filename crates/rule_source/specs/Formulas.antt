@@ -71,9 +71,17 @@ abbrev pub limit_of : Statement → Option Token
 limit_of (statement.Limit h t) = Some t
 limit_of _ = None
 
-abbrev pub limits_in : List Line → List Token
-limits_in ls = filter_map (λ l. limit_of l.statement) ls
+-- the formula of a line that says how a run may begin
+abbrev pub start_of : Statement → Option Token
+start_of (statement.Start h t) = Some t
+start_of _ = None
 
--- the formulas are what the limits say, one for each, in their order
+-- the formulas about a row are what statements of one sort say, one for each, in their order
+abbrev pub AreSaid : (Statement → Option Token) → Bits → List Line → List Formula → Type 0
+AreSaid of_sort b ls fs = AllZip (FormulaOf b about.Row) (filter_map (λ l. of_sort l.statement) ls) fs
+
 abbrev pub AreLimits : Bits → List Line → List Formula → Type 0
-AreLimits b ls fs = AllZip (FormulaOf b about.Row) (limits_in ls) fs
+AreLimits b ls fs = AreSaid limit_of b ls fs
+
+abbrev pub AreStarts : Bits → List Line → List Formula → Type 0
+AreStarts b ls fs = AreSaid start_of b ls fs

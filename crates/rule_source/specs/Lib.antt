@@ -1,4 +1,4 @@
--- Which modules patterns fit; how the modules lie; the names of bits and sets; what patterns ask, formulas say and lines do; the given rows; what a file claims.
+-- Which modules patterns fit; how the modules lie; the names of bits and sets; what patterns ask, formulas say and lines do; the given rows; what a file claims, and what it claims to be kept.
 pub mod Clash
 pub mod Layouts
 pub mod Names
@@ -8,3 +8,4 @@ pub mod Effects
 pub mod Given
 pub mod Claimed
 pub mod Asking
+pub mod Kept

@@ -27,6 +27,8 @@ pub enum Fault {
     TwiceInModule(Token),
     // this statement claims nothing
     NoClaim(Span),
+    // this is claimed to be kept, and the file does not say how a run may begin
+    NoStart(Token),
     // what is wrong in a formula, and where
     Formula(String, Option<Span>),
     // what is read names a bit or a set that no module has
@@ -115,6 +117,10 @@ impl fmt::Display for Message<'_, '_> {
                 let word = found(text, *span);
                 write!(f, "expected `never` or `claim`, found `{word}`")
             }
+            Fault::NoStart(_) => write!(
+                f,
+                "expected a line `start:` in a file that claims what is kept"
+            ),
             Fault::Formula(message, _) => write!(f, "{message}"),
             Fault::Unsound(unsound) => write!(f, "{unsound}"),
             Fault::Memory => write!(f, "there is not enough memory"),
@@ -148,9 +154,10 @@ impl Fault {
     pub fn span(&self, text: &str) -> Option<Span> {
         match self {
             Fault::Form(fault) => fault.span(text),
-            Fault::Bit(token) | Fault::Twice(token) | Fault::TwiceInModule(token) => {
-                Some(token.span)
-            }
+            Fault::Bit(token)
+            | Fault::Twice(token)
+            | Fault::TwiceInModule(token)
+            | Fault::NoStart(token) => Some(token.span),
             Fault::Unfit(span) | Fault::Unreached(span, _) | Fault::NoClaim(span) => Some(*span),
             Fault::Formula(_, span) => *span,
             Fault::NoBits | Fault::Unsound(_) | Fault::Memory => None,

@@ -1,4 +1,4 @@
-// A rule file, read: the rule, what is claimed of it, and its given rows.
+// A rule file, read: the rule, how its runs may begin, and its given rows.
 ghost use Rattle.std.specs.Prelude.{◌≡◌, ◌≤◌, IfOk, OnOk, List, length, map, [], ◌++◌};
 ghost use Rattle.std.specs.List.{AllZip, cons_option};
 ghost use Rattle.rule_file.specs.Claims.{bytes_of};
@@ -7,7 +7,7 @@ ghost use Rattle.rule_file.specs.Written.{file_tokens};
 ghost use Rattle.rule_file.specs.declared.token.Token.{Token};
 ghost use Rattle.rule_file.specs.declared.tree.Module.{Module};
 ghost use Rattle.rule_source.specs.Effects.{AllNameOnce, NamesOnce, line_by, table_in};
-ghost use Rattle.rule_source.specs.Formulas.{AreLimits, FormulaOf, limit_of};
+ghost use Rattle.rule_source.specs.Formulas.{AreLimits, AreStarts, FormulaOf, limit_of, start_of};
 ghost use Rattle.rule_source.specs.Given.{AreRows, IsRow, row_by};
 ghost use Rattle.rule_source.specs.Layouts.{layout_of};
 ghost use Rattle.rule_source.specs.Patterns.{allowed_by, allowed_in};
@@ -23,6 +23,7 @@ use formulas::formula::Formula;
 use rows::line::{Line, Pattern};
 use rows::rule::Layout;
 use rule_file::parse::read;
+use rule_file::token::Token;
 use rule_file::tree::{File, Statement};
 use rules::rule::Rule;
 use std::alloc::Global;
@@ -34,6 +35,8 @@ pub struct Source<'t> {
     pub bits: Bits<'t>,
     pub file: File,
     pub rule: Rule,
+    // all that holds of the first row of a run; they are no part of the rule
+    pub starts: Vec<Formula>,
     pub rows: Vec<Given>,
     pub ghost few: { rule.bits ≤ 5 },
 }
@@ -52,7 +55,10 @@ pub fn statement_span(statement: &Statement) -> Span {
         Statement::Pattern(pattern)
         | Statement::Line(pattern, _, _)
         | Statement::Never(_, pattern) => pattern_span(pattern),
-        Statement::Limit(_, formula) | Statement::Claim(_, formula) => formula.span,
+        Statement::Limit(_, formula)
+        | Statement::Start(_, formula)
+        | Statement::Claim(_, formula)
+        | Statement::Kept(_, formula) => formula.span,
         Statement::Allowed(heading) | Statement::Table(heading) | Statement::Row(heading, _) => {
             heading.word.span
         }
@@ -69,11 +75,20 @@ fn layout_of(file: &File) -> Layout
     }
 }
 
+// The formula about a row alone that a token is.
+fn row_formula(alloc: Global, bits: &Bits<'_>, formula: Token) -> Result<Formula, Fault>
+    ensures { IfOk result (FormulaOf bits.now Row formula) }
+{
+    let formula = formula_of(alloc, bits, About::Row, formula)?;
+    Ok(Box::into_inner(formula))
+}
+
 // What has been read so far.
 #[derive(Drop)]
 struct Reading {
     allowed: Vec<Pattern>,
     limits: Vec<Formula>,
+    starts: Vec<Formula>,
     table: Vec<(Line, Span)>,
     rows: Vec<Given>,
 }
@@ -84,17 +99,20 @@ impl Reading {
     fn add(&mut self, alloc: Global, bits: &Bits<'_>, statement: &Statement) -> Result<(), Fault>
         ensures patterns { OnOk result (self.new.allowed.items ≡ self.old.allowed.items ++ cons_option (allowed_by bits.now statement.now) []) }
         ensures limits { OnOk result ((ts : List Token) → AllZip (FormulaOf bits.now Row) ts self.old.limits.items → AllZip (FormulaOf bits.now Row) (ts ++ cons_option (limit_of statement.now) []) self.new.limits.items) }
+        ensures starts { OnOk result ((ts : List Token) → AllZip (FormulaOf bits.now Row) ts self.old.starts.items → AllZip (FormulaOf bits.now Row) (ts ++ cons_option (start_of statement.now) []) self.new.starts.items) }
         ensures lines { OnOk result (map (λ l. l.0) self.new.table.items ≡ map (λ l. l.0) self.old.table.items ++ cons_option (line_by bits.now statement.now) []) }
         ensures once { OnOk result (NamesOnce bits.now statement.now) }
         ensures rows { OnOk result ((ms : List (List Module)) → AllZip (IsRow bits.now) ms self.old.rows.items → AllZip (IsRow bits.now) (ms ++ cons_option (row_by statement.now) []) self.new.rows.items) }
     {
         match statement {
             Statement::Allowed(_) | Statement::Table(_) => {}
-            Statement::Never(_, _) | Statement::Claim(_, _) => {}
+            Statement::Never(_, _) | Statement::Claim(_, _) | Statement::Kept(_, _) => {}
             Statement::Pattern(pattern) => self.allowed.push(pattern_of(alloc, bits, pattern)?)?,
             Statement::Limit(_, formula) => {
-                let limit = formula_of(alloc, bits, About::Row, *formula)?;
-                self.limits.push(Box::into_inner(limit))?
+                self.limits.push(row_formula(alloc, bits, *formula)?)?
+            }
+            Statement::Start(_, formula) => {
+                self.starts.push(row_formula(alloc, bits, *formula)?)?
             }
             Statement::Line(when, _, effects) => {
                 let span = pattern_span(when);
@@ -118,6 +136,7 @@ fn reading_of(
 ) -> Result<Reading, Fault>
     ensures patterns { IfOk result (λ r. r.allowed.items ≡ allowed_in bits.now lines.now) }
     ensures limits { IfOk result (λ r. AreLimits bits.now lines.now r.limits.items) }
+    ensures starts { IfOk result (λ r. AreStarts bits.now lines.now r.starts.items) }
     ensures lines { IfOk result (λ r. map (λ l. l.0) r.table.items ≡ table_in bits.now lines.now) }
     ensures once { OnOk result (AllNameOnce bits.now lines.now) }
     ensures rows { IfOk result (λ r. AreRows bits.now lines.now r.rows.items) }
@@ -125,6 +144,7 @@ fn reading_of(
     let mut reading = Reading {
         allowed: Vec::new(alloc),
         limits: Vec::new(alloc),
+        starts: Vec::new(alloc),
         table: Vec::new(alloc),
         rows: Vec::new(alloc),
     };
@@ -134,14 +154,19 @@ fn reading_of(
     Ok(reading)
 }
 
-// The rule of what was read, and the given rows.
-fn made(alloc: Global, bits: &Bits<'_>, reading: Reading) -> Result<(Rule, Vec<Given>), Fault>
+// The rule of what was read, how its runs may begin, and the given rows.
+fn made(
+    alloc: Global,
+    bits: &Bits<'_>,
+    reading: Reading,
+) -> Result<(Rule, Vec<Formula>, Vec<Given>), Fault>
     ensures bits { IfOk result (λ r. r.0.bits ≡ length bits.now.names.items) }
     ensures layout { IfOk result (λ r. r.0.layout ≡ bits.now.layout) }
     ensures allowed { IfOk result (λ r. r.0.allowed ≡ reading.allowed) }
     ensures limits { IfOk result (λ r. r.0.limits ≡ reading.limits) }
     ensures table { IfOk result (λ r. r.0.table.items ≡ map (λ l. l.0) reading.table.items) }
-    ensures rows { IfOk result (λ r. r.1 ≡ reading.rows) }
+    ensures starts { IfOk result (λ r. r.1 ≡ reading.starts) }
+    ensures rows { IfOk result (λ r. r.2 ≡ reading.rows) }
 {
     let table = reading
         .table
@@ -156,7 +181,7 @@ fn made(alloc: Global, bits: &Bits<'_>, reading: Reading) -> Result<(Rule, Vec<G
         reading.limits,
         table,
     )?;
-    Ok((rule, reading.rows))
+    Ok((rule, reading.starts, reading.rows))
 }
 
 /// The rule that statements make, none of which is left out. Fails at the first thing that is wrong in them, and for memory.
@@ -172,11 +197,11 @@ pub fn rule_of(
     ensures lines { IfOk result (λ r. r.table.items ≡ table_in bits.now lines.now) }
     ensures once { OnOk result (AllNameOnce bits.now lines.now) }
 {
-    let (rule, _) = made(alloc, bits, reading_of(alloc, bits, lines)?)?;
+    let (rule, _, _) = made(alloc, bits, reading_of(alloc, bits, lines)?)?;
     Ok(rule)
 }
 
-/// Reads a rule file: each statement of the text is in the file, and each that makes the rule, or gives a row, is in these. Fails at the first thing that is
+/// Reads a rule file: each statement of the text is in the file, and each that makes the rule, says how a run may begin or gives a row is in these. Fails at the first thing that is
 /// wrong in it, and for memory.
 pub fn source_of(alloc: Global, text: &str) -> Result<Source<'_>, Fault>
     ensures file { IfOk result (λ s. Covers text.now 0 (file_tokens s.file) (length text.now)) }
@@ -187,17 +212,19 @@ pub fn source_of(alloc: Global, text: &str) -> Result<Source<'_>, Fault>
     ensures ring { IfOk result (λ s. s.rule.layout ≡ s.bits.layout) }
     ensures patterns { IfOk result (λ s. s.rule.allowed.items ≡ allowed_in s.bits s.file.lines.items) }
     ensures limits { IfOk result (λ s. AreLimits s.bits s.file.lines.items s.rule.limits.items) }
+    ensures starts { IfOk result (λ s. AreStarts s.bits s.file.lines.items s.starts.items) }
     ensures lines { IfOk result (λ s. s.rule.table.items ≡ table_in s.bits s.file.lines.items) }
     ensures once { IfOk result (λ s. AllNameOnce s.bits s.file.lines.items) }
     ensures rows { IfOk result (λ s. AreRows s.bits s.file.lines.items s.rows.items) }
 {
     let file = read(alloc, text)?;
     let bits = Bits::new(alloc, text, layout_of(&file), &file.bits)?;
-    let (rule, rows) = made(alloc, &bits, reading_of(alloc, &bits, &file.lines)?)?;
+    let (rule, starts, rows) = made(alloc, &bits, reading_of(alloc, &bits, &file.lines)?)?;
     Ok(Source {
         bits,
         file,
         rule,
+        starts,
         rows,
     })
 }

@@ -101,7 +101,7 @@ fn faults_are_told(rt: HostRuntime) -> Result<(), Fail> {
         ("bits: a\nallowed * | a | *", "2:9: expected `:`, found `*`"),
         (
             "bits: a\n* | a | *",
-            "2:1: expected `allowed:`, `table:`, `never`, `claim` or `row:`, found `*`",
+            "2:1: expected `allowed:`, `table:`, `start:`, `never`, `claim`, `kept` or `row:`, found `*`",
         ),
         (
             "bits: a\nnever gap:junk",
@@ -171,13 +171,32 @@ fn faults_are_told(rt: HostRuntime) -> Result<(), Fail> {
             "bits: a\nclaim x: # all\n",
             "2:15: expected a formula, found the end of the line",
         ),
+        ("bits: kept", "1:7: expected a name, found the word `kept`"),
+        (
+            "bits: a\nclaim start: y",
+            "2:7: expected a name, found the word `start`",
+        ),
+        ("bits: a\nstart x: y", "2:7: expected `:`, found `x`"),
+        (
+            "bits: a\nstart:\n  a | a | a",
+            "2:7: expected a formula, found the end of the line",
+        ),
+        ("bits: a\nkept: y", "2:5: expected a name, found `:`"),
+        (
+            "bits: a\nkept x: # all\n",
+            "2:14: expected a formula, found the end of the line",
+        ),
+        (
+            "bits: a\nkept x: y\nclaim x: y",
+            "3:7: expected another name, found `x` a second time",
+        ),
         (
             "bits: a\nclaim x: y\nnever x: a|a|a",
             "3:7: expected another name, found `x` a second time",
         ),
         (
             "bits: a\ngrün",
-            "2:1: expected `allowed:`, `table:`, `never`, `claim` or `row:`, found `grün`",
+            "2:1: expected `allowed:`, `table:`, `start:`, `never`, `claim`, `kept` or `row:`, found `grün`",
         ),
     ];
     for (text, want) in cases {
@@ -193,6 +212,19 @@ fn files_are_printed(rt: HostRuntime) -> Result<(), Fail> {
         "# A line.\n\nbits:tray  drive # two\r\nallowed:\n*|tray !drive|module   none\nallowed: all1 p: (p in tray # )\n  => p in drive)  # so\ntable:\n* | * | * -> tray=left.tray !drive moves drive=tray\nrow: tray + drive . drive\nnever two: tray|tray|*\nclaim one :{ } sub tray";
     let want =
         "bits: tray drive\n\nallowed:\n  * | tray !drive | module none\nallowed: all1 p: (p in tray # )\n  => p in drive)\n\ntable:\n  * | * | * -> tray=left.tray !drive moves drive=tray\nrow: tray+drive . drive\nnever two: tray | tray | *\nclaim one: { } sub tray\n";
+    let printed = said(rt.alloc(), text)?;
+    assert_eq!(rt; printed.as_str(), want);
+    let again = said(rt.alloc(), printed.as_str())?;
+    assert_eq!(rt; again.as_str(), want);
+    Ok(())
+}
+
+#[test]
+fn starts_and_kept_claims_are_printed(rt: HostRuntime) -> Result<(), Fail> {
+    let text =
+        "bits: a\nstart :~(a # (\n = row) # so\nallowed:\n*|a|*\nstart: a sub row\n* | * | *\nkept one :a = {\n}";
+    let want =
+        "bits: a\nstart: ~(a # (\n = row)\n\nallowed:\n  * | a | *\nstart: a sub row\n  * | * | *\nkept one: a = {\n}\n";
     let printed = said(rt.alloc(), text)?;
     assert_eq!(rt; printed.as_str(), want);
     let again = said(rt.alloc(), printed.as_str())?;

@@ -52,9 +52,21 @@ impl Dice {
         self.put_some(out, &changes)
     }
 
+    fn put_formula(&mut self, out: &mut String) -> Result<(), Fail> {
+        out.push_str(self.pick(&[
+            " a sub b",
+            "(all1 p: # (\n p in a)",
+            "{1,\n\n 2} = c",
+            "~empty(a)",
+        ]))?;
+        Ok(())
+    }
+
     // A line below a heading, or a statement that stands anywhere.
     fn put_line(&mut self, out: &mut String, table: bool, number: u32) -> Result<(), Fail> {
-        match self.pick(&["line", "line", "never", "claim", "limit", "row", ""]) {
+        match self.pick(&[
+            "line", "line", "never", "claim", "kept", "limit", "start", "row", "",
+        ]) {
             "line" => {
                 self.put_pattern(out)?;
                 if table {
@@ -67,15 +79,18 @@ impl Dice {
             }
             "claim" => {
                 out.push_str(format!(in self.alloc; "claim n{number}:")?.as_str())?;
-                out.push_str(self.pick(&[
-                    " a sub b",
-                    "(all1 p: # (\n p in a)",
-                    "{1,\n\n 2} = c",
-                    "~empty(a)",
-                ]))?;
+                self.put_formula(out)?;
+            }
+            "kept" => {
+                out.push_str(format!(in self.alloc; "kept n{number} :")?.as_str())?;
+                self.put_formula(out)?;
             }
             "limit" => {
                 out.push_str(self.pick(&["allowed: ex1 p: p in a", "allowed:~(a\n= b)"]))?
+            }
+            "start" => {
+                out.push_str(self.pick(&["start:", "start :"]))?;
+                self.put_formula(out)?;
             }
             "row" => {
                 out.push_str("row:")?;

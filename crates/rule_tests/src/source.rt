@@ -17,7 +17,7 @@ table:
   * | tray | !tray -> fork=left.tray moves !tray
 row: tray . tray+fork
 never gap: none | fork | *
-claim kept: all1 p: p in fork => p in fork'
+claim forks_stay: all1 p: p in fork => p in fork'
 ";
 
 fn literal(side: Side, asked: Asked, set: bool) -> Literal {
@@ -87,7 +87,7 @@ fn formulas_and_claims(rt: HostRuntime) -> Result<(), Fail> {
         return Err(Fail::from("two claims"));
     };
     assert!(rt; gap.name == "gap" && gap.put == Put::Never);
-    assert!(rt; fork.name == "kept" && fork.put == Put::Claim);
+    assert!(rt; fork.name == "forks_stay" && fork.put == Put::Claim);
     let kept = all_in(alloc, 5, 2, 1, place_in(alloc, 5, 4)?)?;
     match &fork.question.property {
         Property::Fails(formula) => assert!(rt; **formula == *kept),
