@@ -15,7 +15,7 @@ use Rattle.kept_check.specs.declared.answer.Breach.{Breach}
 use Rattle.kept_check.specs.declared.answer.Large.{Large}
 use Rattle.kept_check.specs.declared.answer.TooLarge.{TooLarge}
 use Rattle.kept_check.specs.declared.found.Found.{Found}
-use Rattle.kept_check.specs.declared.part.Asked.{Asked}
+use Rattle.rule_check.specs.declared.memory.Memory.{Memory}
 
 -- whatever row a run of the rule begins with of which the start holds, the claim holds of its row at every time
 abbrev pub AlwaysHolds : Keeping → Type 0
@@ -30,15 +30,15 @@ pub record IsBreach (k : Keeping) (x : Breach) : Type 0 where
   pub next : x.after.items ≡ after k.rule.now x.row.items
 
 -- a part of the claim is too large, and where it has more than one so is the whole
-pub record IsTooLarge (a : Asked) (t : TooLarge) : Type 0 where
-  pub of_part : LargeIn a (parts a.keeping.now.claim.value) 1 t
-  pub of_whole : (length (parts a.keeping.now.claim.value) ≡ 1) ⊎ ((m : Moment) × (l : Large) × IsLarge a a.keeping.now.claim.value m l)
+pub record IsTooLarge (k : Keeping) (y : Memory) (t : TooLarge) : Type 0 where
+  pub of_part : LargeIn k y (parts k.claim.value) 1 t
+  pub of_whole : (length (parts k.claim.value) ≡ 1) ⊎ ((m : Moment) × (l : Large) × IsLarge k y k.claim.value m l)
 
 -- what is found of the claim
-abbrev pub OfClaim : Asked → Found → Type 0
-OfClaim a f = FoundOf a.keeping.now.rule.now.bits (Broken a.keeping.now a.keeping.now.claim.value) (Breaks a.keeping.now a.keeping.now.claim.value) (IsTooLarge a) f
+abbrev pub OfClaim : Keeping → Memory → Found → Type 0
+OfClaim k y f = FoundOf k.rule.now.bits (Broken k k.claim.value) (Breaks k k.claim.value) (IsTooLarge k y) f
 
-abbrev pub Told : Asked → Answer → Type 0
-Told a answer.Kept = Kept a.keeping.now × AlwaysHolds a.keeping.now
-Told a (answer.NotKept x) = IsBreach a.keeping.now x
-Told a (answer.TooLarge t) = IsTooLarge a t
+abbrev pub Told : Keeping → Memory → Answer → Type 0
+Told k y answer.Kept = Kept k × AlwaysHolds k
+Told k y (answer.NotKept x) = IsBreach k x
+Told k y (answer.TooLarge t) = IsTooLarge k y t

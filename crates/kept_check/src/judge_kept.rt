@@ -21,7 +21,7 @@ fn judge_parts(
 ) -> Result<Found, AllocError>
     requires few { number + length parts.now < 2 ^ 64 }
     requires names { NamesOk asked.keeping.now.rule.now.bits (map (λ d. d.now) parts.now) }
-    ensures { IfOk result (OfParts asked.entry (map (λ d. d.now) parts.now) number) }
+    ensures { IfOk result (OfParts asked.entry.keeping.now asked.entry.memory (map (λ d. d.now) parts.now) number) }
 {
     let [part, rest @ ..] = parts else {
         return Ok(Found::Nothing);
@@ -33,7 +33,7 @@ fn judge_parts(
 
 // What is found of the claim by its parts, and how many these are.
 fn by_parts(alloc: Global, asked: Asked<'_, '_>) -> Result<(Found, usize), AllocError>
-    ensures { IfOk result (λ p. OfParts asked.entry (parts asked.entry.keeping.now.claim.value) 1 p.0 × (p.1 ≡ length (parts asked.entry.keeping.now.claim.value))) }
+    ensures { IfOk result (λ p. OfParts asked.entry.keeping.now asked.entry.memory (parts asked.entry.keeping.now.claim.value) 1 p.0 × (p.1 ≡ length (parts asked.entry.keeping.now.claim.value))) }
 {
     let mut parts = Vec::new(alloc);
     put_parts(&mut parts, &asked.keeping.claim)?;
@@ -48,9 +48,9 @@ fn of_whole(
     large: TooLarge,
     count: usize,
 ) -> Result<Found, AllocError>
-    requires part { LargeIn asked (parts asked.keeping.now.claim.value) 1 large }
+    requires part { LargeIn asked.keeping.now asked.memory (parts asked.keeping.now.claim.value) 1 large }
     requires count { count ≡ length (parts asked.keeping.now.claim.value) }
-    ensures { IfOk result (OfClaim asked.entry) }
+    ensures { IfOk result (OfClaim asked.entry.keeping.now asked.entry.memory) }
 {
     if count == 1 {
         return Ok(Found::TooLarge(large));
@@ -64,7 +64,7 @@ fn of_whole(
 
 // What is found of the claim: by its parts, and where one of them is too large by the whole.
 fn found(alloc: Global, asked: Asked<'_, '_>) -> Result<Found, AllocError>
-    ensures { IfOk result (OfClaim asked.entry) }
+    ensures { IfOk result (OfClaim asked.entry.keeping.now asked.entry.memory) }
 {
     let (found, count) = by_parts(alloc, asked)?;
     match found {
@@ -76,7 +76,7 @@ fn found(alloc: Global, asked: Asked<'_, '_>) -> Result<Found, AllocError>
 
 /// Whether the claim is kept, with at most so many classes in so much memory. It is judged by its parts, of each of which two claims are made, about rows of the start and about rows and the rows after them; where one of these is too large, as a whole. It fails for want of memory alone.
 pub fn judge_kept(alloc: Global, asked: Asked<'_, '_>) -> Result<Answer, AllocError>
-    ensures { IfOk result (Told asked.entry) }
+    ensures { IfOk result (Told asked.entry.keeping.now asked.entry.memory) }
 {
     let rule = asked.keeping.rule;
     match found(alloc, asked)? {

@@ -32,7 +32,7 @@ fn verdict_of(
     moment: Moment,
 ) -> Result<Verdict, Refusal>
     requires { IsTrue (names_ok asked.keeping.now.rule.now.bits part.now) }
-    ensures { MatchResult result (IsAnswered asked.entry part.now moment) (Refused (suc asked.entry.keeping.now.rule.now.bits) (claim_of asked.entry.keeping.now part.now moment)) }
+    ensures { MatchResult result (IsAnswered asked.entry.keeping.now asked.entry.memory part.now moment) (Refused (suc asked.entry.keeping.now.rule.now.bits) (claim_of asked.entry.keeping.now part.now moment)) }
 {
     let keeping = asked.keeping;
     let claim = claim_of(alloc, keeping, part, moment)?;
@@ -49,7 +49,7 @@ fn at_moment(
     moment: Moment,
 ) -> Result<Found, AllocError>
     requires { IsTrue (names_ok asked.keeping.now.rule.now.bits part.now) }
-    ensures { IfOk result (AtMoment asked.entry part.now number moment) }
+    ensures { IfOk result (AtMoment asked.entry.keeping.now asked.entry.memory part.now number moment) }
 {
     let why = match verdict_of(alloc, asked, part, moment) {
         Ok(Verdict::Never) => return Ok(Found::Nothing),
@@ -74,7 +74,7 @@ pub fn judge_part(
     number: usize,
 ) -> Result<Found, AllocError>
     requires { IsTrue (names_ok asked.keeping.now.rule.now.bits part.now) }
-    ensures { IfOk result (OfPart asked.entry part.now number) }
+    ensures { IfOk result (OfPart asked.entry.keeping.now asked.entry.memory part.now number) }
 {
     let start = at_moment(alloc, asked, part, number, Moment::Start)?;
     let step = at_moment(alloc, asked, part, number, Moment::Step)?;

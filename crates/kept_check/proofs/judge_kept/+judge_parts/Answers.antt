@@ -15,6 +15,6 @@ returns t c =
     let d = c.part-item.result.now in
     let xs = c.args.parts.now in
     let rest : List Formula = map (λ x. x.now) (take (length xs - 1) (drop 1 xs)) in
-    let both = together k.rule.now.bits (Broken k d) (BrokenAny k rest) (BrokenAny k (d ∷ rest)) (λ w h. (λ p. p, λ p. p)) (Breaks k d) (BreaksAny k rest) (BreaksAny k (d ∷ rest)) (λ m w p. inl p) (λ m w p. inr p) (λ t. (t.part ≡ n) × IsLarge a d t.moment t.why) (LargeIn a rest (n + 1)) (LargeIn a (d ∷ rest) n) (λ t p. inl p) (λ t p. inr p)
+    let both = together k.rule.now.bits (Broken k d) (BrokenAny k rest) (BrokenAny k (d ∷ rest)) (λ w h. (λ p. p, λ p. p)) (Breaks k d) (BreaksAny k rest) (BreaksAny k (d ∷ rest)) (λ m w p. inl p) (λ m w p. inr p) (λ t. (t.part ≡ n) × IsLarge a.keeping.now a.memory d t.moment t.why) (LargeIn a.keeping.now a.memory rest (n + 1)) (LargeIn a.keeping.now a.memory (d ∷ rest) n) (λ t p. inl p) (λ t p. inr p)
     c.in_ok-first.first c.in_ok-others.others c.earlier.result c.in_ok-first.ensures c.in_ok-others.ensures c.earlier.ensures in
-    subst (λ (l : List Formula). OfParts a l n c.earlier.result) (sym (ap (λ l. map (λ x. x.now) l) (first_and_rest xs c.part-item.result (omega (arith, c.in-len1-up.len_at_least)) c.part-item.is))) both
+    subst (λ (l : List Formula). OfParts a.keeping.now a.memory l n c.earlier.result) (sym (ap (λ l. map (λ x. x.now) l) (first_and_rest xs c.part-item.result (omega (arith, c.in-len1-up.len_at_least)) c.part-item.is))) both

@@ -9,4 +9,4 @@ step-requires c = c.args.asked.keeping.now.rule.now.few
 pub returns-in-Nothing : goal.returns-in-Nothing
 returns-in-Nothing c =
     let a = c.args.asked in
-    kept a.keeping.now (subst (OfClaim a) c.in-Nothing.is c.in_ok-found.ensures)
+    kept a.keeping.now (subst (OfClaim a.keeping.now a.memory) c.in-Nothing.is c.in_ok-found.ensures)
