@@ -108,7 +108,7 @@ impl Rule {
                     Some(count) => rule.counts.push(count),
                     None => rule.formulas.push(limit.trim().to_string()),
                 }
-            } else if ["never ", "claim ", "row:"].iter().any(|word| line.starts_with(word)) {
+            } else if ["start:", "never ", "claim ", "kept ", "row:"].iter().any(|word| line.starts_with(word)) {
                 heading = "";
             } else if heading == "allowed:" && !line.is_empty() {
                 rule.allowed.push(pattern(&rule.bits, line));
