@@ -6,4 +6,6 @@ pub mod Narrowing
 pub mod Answers
 pub mod Told
 pub mod ShownClaim
+pub mod ShownKeeping
+pub mod KeptAnswers
 pub mod Reported

@@ -5,6 +5,7 @@ use Rattle.std.specs.Fmt.{decimal}
 use Rattle.rules.specs.declared.property.Property.{Property}
 use Rattle.rules.specs.declared.property.Property.TheVariants.{Allowed, Stuck, Left}
 use Rattle.rule_source.specs.declared.claimed.Claim.{Claim}
+use Rattle.rule_source.specs.declared.kept.Keep.{Keep}
 use Rattle.rule_source.specs.declared.given.Given.{Given}
 use Rattle.rule_source.specs.declared.source.Source.{Source}
 use Rattle.rule_report.specs.declared.answer.Answer.{Answer}
@@ -15,38 +16,33 @@ use Rattle.rule_report.specs.declared.shown_rows.Picture.{Picture}
 use Rattle.rule_report.specs.declared.subject.Subject.{Subject}
 use Rattle.rule_report.specs.declared.subject.Subject.TheVariants as subject
 use Rattle.rule_report.specs.Answers.{TrueOf}
-use Rattle.rule_report.specs.Reading.{IsRead, AreClaims}
+use Rattle.rule_report.specs.Reading.{IsRead, AreClaims, AreKeeps}
+use Rattle.rule_report.specs.KeptAnswers.{IsKeptAnswer, names_of}
 use Rattle.rule_report.specs.ShownClaim.{IsShown}
 use Rattle.rule_report.specs.ShownRows.{rows_from, rows_shown, picture_name}
 use Rattle.rule_report.specs.Subjects.{given_of, short_of}
 use Rattle.rule_report.specs.Told.{told, Ends}
 
--- what is asked of the rule: what each rule is asked, and the opposite of each claim
-abbrev pub of_claim : Claim → Subject × Property
-of_claim c = (subject.Claim c.put c.name c.statement, c.question.property)
+-- what a report answers: a question about rows, or a claim that something is kept
+pub data Item : Type 0 where
+  about : Subject → Property → Item
+  of_keep : Keep → Item
 
-abbrev pub general : List (Subject × Property)
-general = (subject.SomeAllowed, Allowed) ∷ (subject.NoneStuck, Stuck) ∷ (subject.AllowedKept, Left) ∷ []
+-- what each rule is asked, the opposite of each claim, and what is claimed to be kept
+abbrev pub of_claim : Claim → Item
+of_claim c = about (subject.Claim c.put c.name c.statement) c.question.property
 
-abbrev pub questions : List Claim → List (Subject × Property)
-questions claims = general ++ map of_claim claims
+abbrev pub general : List Item
+general = about subject.SomeAllowed Allowed ∷ about subject.NoneStuck Stuck ∷ about subject.AllowedKept Left ∷ []
 
--- what is told of a question: the answer, where it is too large, and its claim as it is shown
+abbrev pub items : List Claim → List Keep → List Item
+items claims keeps = (general ++ map of_claim claims) ++ map of_keep keeps
+
+-- what is told of an item, and what its pictures show
 pub record Part : Type 0 where
-  pub subject : Subject
-  pub property : Property
-  pub answer : Answer
-  pub ending : List ℕ
-  pub claim : List ℕ
-
-abbrev pub question_of : Part → Subject × Property
-question_of part = (part.subject, part.property)
-
-abbrev pub names_of : Source → List (List ℕ)
-names_of s = map (λ name. name.now) s.bits.names.items
-
-abbrev pub words_of : Source → Part → List ℕ
-words_of s part = told s.bits.layout (names_of s) part.subject part.answer ++ (part.ending ++ part.claim)
+  pub item : Item
+  pub words : List ℕ
+  pub pictures : List (List ℕ)
 
 -- a first row has a picture
 abbrev pub drawn : Subject → Answer → List (List ℕ)
@@ -55,19 +51,31 @@ drawn s (First h) = short_of s ∷ []
 drawn s (TooLarge n place) = []
 drawn s (Refused e) = []
 
--- the answer is true of the rule
-pub record IsPart (file : List ℕ) (s : Source) (o : Options) (part : Part) : Type 0 where
-  pub true_of : TrueOf s o part.subject part.property part.answer
-  pub ends : Ends file s.bits.text.now part.answer part.ending
-  pub shown : IsShown o s.rule part.property part.claim
+-- the words are an answer that is true of the rule, where it is too large, and its claim as it is shown
+pub record IsAnswer (file : List ℕ) (s : Source) (o : Options) (u : Subject) (p : Property) (words : List ℕ) (pictures : List (List ℕ)) : Type 0 where
+  pub answer : Answer
+  pub ending : List ℕ
+  pub claim : List ℕ
+  pub true_of : TrueOf s o u p answer
+  pub ends : Ends file s.bits.text.now answer ending
+  pub shown : IsShown o s.rule p claim
+  pub words_are : words ≡ told s.bits.layout (names_of s) u answer ++ (ending ++ claim)
+  pub pictures_are : pictures ≡ drawn u answer
 
--- of each question there is a part, in their order, with an answer that is true; the words are those of the parts, and the pictures, where they are wanted, those of the first rows
-pub record Answers (file : List ℕ) (s : Source) (o : Options) (asked : List (Subject × Property)) (words : List ℕ) (pictures : List (List ℕ)) : Type 0 where
+abbrev pub IsItem : List ℕ → Source → Options → Item → List ℕ → List (List ℕ) → Type 0
+IsItem file s o (about u p) words pictures = IsAnswer file s o u p words pictures
+IsItem file s o (of_keep k) words pictures = IsKeptAnswer file s o k words pictures
+
+abbrev pub IsPart : List ℕ → Source → Options → Part → Type 0
+IsPart file s o part = IsItem file s o part.item part.words part.pictures
+
+-- of each item there is a part, in their order, with an answer that is true; the words are those of the parts, and the pictures, where they are wanted, those of the first rows
+pub record Answers (file : List ℕ) (s : Source) (o : Options) (asked : List Item) (words : List ℕ) (pictures : List (List ℕ)) : Type 0 where
   pub parts : List Part
-  pub of_questions : map question_of parts ≡ asked
+  pub of_items : map (λ part. part.item) parts ≡ asked
   pub all_true : All (IsPart file s o) parts
-  pub words_are : words ≡ flat_map (words_of s) parts
-  pub pictures_are : pictures ≡ (if o.pictures then flat_map (λ part. drawn part.subject part.answer) parts else [])
+  pub words_are : words ≡ flat_map (λ part. part.words) parts
+  pub pictures_are : pictures ≡ (if o.pictures then flat_map (λ part. part.pictures) parts else [])
 
 -- a given row and the rows after it
 abbrev pub given_words : Source → Options → Given → List ℕ
@@ -93,25 +101,27 @@ abbrev pub picture_names : List Picture → List (List ℕ)
 picture_names pictures = map (λ picture. string_bytes picture.name) pictures
 
 -- the report has the answers to these questions alone
-pub record Tells (file title : List ℕ) (s : Source) (o : Options) (asked : List (Subject × Property)) (report : Report) : Type 0 where
+pub record Tells (file title : List ℕ) (s : Source) (o : Options) (asked : List Item) (report : Report) : Type 0 where
   pub pictures : List (List ℕ)
   pub answers : Answers file s o asked (string_bytes report.text) pictures
   pub pictures_are : picture_names report.pictures.items ≡ map (picture_name title) pictures
 
--- the report is: the file's name, its given rows, and the answers to the questions of its rule
-pub record Reports (file title : List ℕ) (s : Source) (o : Options) (claims : List Claim) (report : Report) : Type 0 where
+-- the report is: the file's name, its given rows, and the answers to the questions of its rule and on what is claimed to be kept
+pub record Reports (file title : List ℕ) (s : Source) (o : Options) (claims : List Claim) (keeps : List Keep) (report : Report) : Type 0 where
   pub words : List ℕ
   pub pictures : List (List ℕ)
-  pub answers : Answers file s o (questions claims) words pictures
+  pub answers : Answers file s o (items claims keeps) words pictures
   pub text_is : string_bytes report.text ≡ front_words file s o ++ words
   pub pictures_are : picture_names report.pictures.items ≡ map (picture_name title) (front_pictures s o ++ pictures)
 
--- the claims are those of the file; all pictures have one title
+-- the claims are those of the file, and what is claimed to be kept; all pictures have one title
 pub record ReportsClaims (file : List ℕ) (s : Source) (o : Options) (report : Report) : Type 0 where
   pub claims : List Claim
   pub are_claims : AreClaims s claims
+  pub keeps : List Keep
+  pub are_keeps : AreKeeps s keeps
   pub title : List ℕ
-  pub reports : Reports file title s o claims report
+  pub reports : Reports file title s o claims keeps report
 
 -- the text of the file is read, and the report is of what it says
 abbrev pub Reported : List ℕ → List ℕ → Options → Report → Type 0

@@ -28,11 +28,15 @@ pub record HasNoBytes (least : ℕ) (c : C) (words : List ℕ) : Type 0 where
 abbrev pub TellsBytes : ℕ → C → List ℕ → Type 0
 TellsBytes least c words = AreBytes least c words ⊎ HasNoBytes least c words
 
--- a text if it is wanted, and behind it the claim's bytes if they are wanted
-pub record IsShown (o : Options) (r : Rule) (p : Property) (words : List ℕ) : Type 0 where
+-- a text if it is wanted, and behind it the claim's bytes, about at least so many sets, if they are wanted
+pub record IsShownAs (o : Options) (least : ℕ) (c : C) (words : List ℕ) : Type 0 where
   pub text : List ℕ
   pub bytes : List ℕ
   pub words_are : words ≡ text ++ bytes
   pub no_text : o.show ≡ false → text ≡ []
   pub no_bytes : o.bytes ≡ false → bytes ≡ []
-  pub bytes_are : o.bytes ≡ true → TellsBytes (suc r.bits) (claim_of r p) bytes
+  pub bytes_are : o.bytes ≡ true → TellsBytes least c bytes
+
+-- so the claim of a question
+abbrev pub IsShown : Options → Rule → Property → List ℕ → Type 0
+IsShown o r p words = IsShownAs o (suc r.bits) (claim_of r p) words

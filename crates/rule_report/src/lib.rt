@@ -2,10 +2,12 @@
 #![tactic(auto)]
 
 pub mod answer;
+pub mod kept;
 pub mod narrow;
 pub mod options;
 pub mod report;
 pub mod shown_claim;
+pub mod shown_keeping;
 pub mod shown_rows;
 pub mod stop;
 pub mod subject;

@@ -4,9 +4,10 @@ ghost use Rattle.rule_report.specs.ShownRows.{picture_name};
 ghost use Rattle.std.specs.List.{flat_map};
 ghost use Rattle.std.specs.Fmt.{decimal};
 ghost use Rattle.rule_source.specs.Asking.{Asks};
-ghost use Rattle.rule_report.specs.Reported.{Reported, Reports, ReportsClaims, Tells, drawn, front_pictures, front_words, general, given_pictures, given_words, of_claim, picture_names};
+ghost use Rattle.rule_report.specs.Reported.{Reported, Reports, ReportsClaims, Tells, drawn, front_pictures, front_words, general, given_pictures, given_words, about, items, of_keep, of_claim, picture_names};
 
 use crate::answer::{Answer, Asked, answer_to};
+use crate::kept::kept_answer;
 use crate::options::Options;
 use crate::shown_claim::shown_claim;
 use crate::shown_rows::{Picture, Rows, draw, history, title_of};
@@ -16,6 +17,7 @@ use crate::told::{Answered, ending};
 use diagram::history::History;
 use rule_source::claimed::{Claim, claims_of};
 use rule_source::given::Given;
+use rule_source::kept::{Keep, keeps_of};
 use rule_source::source::{Source, source_of};
 use rules::property::Property;
 use rules::question::Question;
@@ -29,8 +31,8 @@ pub struct Report {
 }
 
 impl Report {
-    // Puts what is told besides behind what is there.
-    fn append(&mut self, more: Report) -> Result<(), AllocError>
+    /// Puts what is told besides behind what is there. Fails for memory.
+    pub fn append(&mut self, more: Report) -> Result<(), AllocError>
         ensures text { OnOk result (string_bytes self.new.text ≡ string_bytes self.old.text ++ string_bytes more.text) }
         ensures pictures { OnOk result (self.new.pictures.items ≡ self.old.pictures.items ++ more.pictures.items) }
     {
@@ -40,8 +42,8 @@ impl Report {
     }
 }
 
-// The picture of rows, if pictures are wanted.
-fn picture_of(
+/// The picture of rows, if pictures are wanted. Fails for memory.
+pub fn picture_of(
     alloc: Global,
     asked: Asked<'_, '_>,
     subject: &str,
@@ -145,7 +147,7 @@ fn answered(
     question: &Question<'_>,
 ) -> Result<Report, Stop>
     requires { question.now.rule.now ≡ asked.source.now.rule }
-    ensures { IfOk result (Tells asked.entry.file.now asked.entry.title.now asked.entry.source.now asked.entry.options.now ((subject.now, question.now.property) ∷ [])) }
+    ensures { IfOk result (Tells asked.entry.file.now asked.entry.title.now asked.entry.source.now asked.entry.options.now (about subject.now question.now.property ∷ [])) }
 {
     let source = asked.source;
     let answer = answer_to(alloc, asked, subject, question)?;
@@ -170,7 +172,7 @@ fn answered_property(
     subject: Subject<'_>,
     property: Property,
 ) -> Result<Report, Stop>
-    ensures { IfOk result (Tells asked.entry.file.now asked.entry.title.now asked.entry.source.now asked.entry.options.now ((subject.entry, property) ∷ [])) }
+    ensures { IfOk result (Tells asked.entry.file.now asked.entry.title.now asked.entry.source.now asked.entry.options.now (about subject.entry property ∷ [])) }
 {
     let source = asked.source;
     let question = Question::new(alloc, &source.rule, property)?;
@@ -205,14 +207,48 @@ fn claim_answers(alloc: Global, asked: Asked<'_, '_>, claims: &[Claim<'_>]) -> R
     Ok(report)
 }
 
-// The report of a rule and its claims.
-fn report_on(alloc: Global, asked: Asked<'_, '_>, claims: &[Claim<'_>]) -> Result<Report, Stop>
+// The answers on what the file claims to be kept.
+fn kept_answers(alloc: Global, asked: Asked<'_, '_>, keeps: &[Keep<'_>]) -> Result<Report, Stop>
+    ensures { IfOk result (Tells asked.entry.file.now asked.entry.title.now asked.entry.source.now asked.entry.options.now (map of_keep keeps.now)) }
+{
+    let mut report = Report {
+        text: String::new(alloc),
+        pictures: Vec::new(alloc),
+    };
+    for keep in keeps {
+        report.append(kept_answer(alloc, asked, keep)?)?;
+    }
+    Ok(report)
+}
+
+// The answers to the questions of a rule and to its claims, and on what is claimed to be kept.
+fn answers(
+    alloc: Global,
+    asked: Asked<'_, '_>,
+    claims: &[Claim<'_>],
+    keeps: &[Keep<'_>],
+) -> Result<Report, Stop>
     requires { All (Asks asked.source.now) claims.now }
-    ensures { IfOk result (Reports asked.entry.file.now asked.entry.title.now asked.entry.source.now asked.entry.options.now claims.now) }
+    ensures { IfOk result (Tells asked.entry.file.now asked.entry.title.now asked.entry.source.now asked.entry.options.now (items claims.now keeps.now)) }
+{
+    let mut report = general_answers(alloc, asked)?;
+    report.append(claim_answers(alloc, asked, claims)?)?;
+    report.append(kept_answers(alloc, asked, keeps)?)?;
+    Ok(report)
+}
+
+// The report of a rule and its claims.
+fn report_on(
+    alloc: Global,
+    asked: Asked<'_, '_>,
+    claims: &[Claim<'_>],
+    keeps: &[Keep<'_>],
+) -> Result<Report, Stop>
+    requires { All (Asks asked.source.now) claims.now }
+    ensures { IfOk result (Reports asked.entry.file.now asked.entry.title.now asked.entry.source.now asked.entry.options.now claims.now keeps.now) }
 {
     let mut report = front(alloc, asked)?;
-    report.append(general_answers(alloc, asked)?)?;
-    report.append(claim_answers(alloc, asked, claims)?)?;
+    report.append(answers(alloc, asked, claims, keeps)?)?;
     Ok(report)
 }
 
@@ -226,13 +262,14 @@ fn report_of_source<'s, 't: 's>(
     ensures { IfOk result (ReportsClaims file.now source.now options.now) }
 {
     let claims = claims_of(alloc, source)?;
+    let keeps = keeps_of(alloc, source)?;
     let asked = Asked {
         file,
         title: title_of(file),
         source,
         options,
     };
-    report_on(alloc, asked, &claims)
+    report_on(alloc, asked, &claims, &keeps)
 }
 
 fn report_of<'x>(

@@ -1,7 +1,7 @@
 // The claim of a question: as a text, and as bytes.
-ghost use Rattle.std.specs.Prelude.{◌≡◌, false, true, [], IfOk, suc, string_bytes};
+ghost use Rattle.std.specs.Prelude.{◌≡◌, false, true, [], IfOk, string_bytes};
 ghost use Rattle.claims.specs.Trees.{said};
-ghost use Rattle.rule_report.specs.ShownClaim.{IsShown, TellsBytes};
+ghost use Rattle.rule_report.specs.ShownClaim.{IsShown, IsShownAs, TellsBytes};
 
 use crate::answer::Asked;
 use crate::options::Options;
@@ -40,11 +40,11 @@ fn text_of(alloc: Global, asked: Asked<'_, '_>, claim: &Claim) -> Result<String,
     Ok(format!(in alloc; "{indented}")?)
 }
 
-// The claim's bytes, in hex digits, or why it has none.
-fn bytes_of(alloc: Global, question: &Question<'_>, claim: &Claim) -> Result<String, Stop>
-    ensures { IfOk result (λ words. TellsBytes (suc question.now.rule.now.bits) (said claim.now) (string_bytes words)) }
+// The claim's bytes, about at least so many sets, in hex digits, or why it has none.
+fn bytes_of(alloc: Global, least: usize, claim: &Claim) -> Result<String, Stop>
+    ensures { IfOk result (λ words. TellsBytes least (said claim.now) (string_bytes words)) }
 {
-    match encode(alloc, claim, question.rule.bits as usize + 1) {
+    match encode(alloc, claim, least) {
         Ok(bytes) => {
             let hex = Hex(&bytes);
             Ok(format!(in alloc; "    bytes {hex}\n")?)
@@ -72,21 +72,35 @@ fn wanted_text(alloc: Global, asked: Asked<'_, '_>, claim: &Claim) -> Result<Str
 fn wanted_bytes(
     alloc: Global,
     options: &Options,
-    question: &Question<'_>,
+    least: usize,
     claim: &Claim,
 ) -> Result<String, Stop>
-    ensures wanted { IfOk result (λ words. options.now.bytes ≡ true → TellsBytes (suc question.now.rule.now.bits) (said claim.now) (string_bytes words)) }
+    ensures wanted { IfOk result (λ words. options.now.bytes ≡ true → TellsBytes least (said claim.now) (string_bytes words)) }
     ensures unwanted { IfOk result (λ words. options.now.bytes ≡ false → string_bytes words ≡ []) }
 {
     if options.bytes {
-        bytes_of(alloc, question, claim)
+        bytes_of(alloc, least, claim)
     } else {
         Ok(String::new(alloc))
     }
 }
 
-/// The claim of a question as the options want it shown: as a text that `settle` reads, as bytes that the line tool reads, or both, or not at all.
+/// A claim about at least so many sets as the options want it shown: as a text that `settle` reads, as bytes that the line tool reads, or both, or not at all.
 /// Fails for memory, and where the claim has no text.
+pub fn shown(
+    alloc: Global,
+    asked: Asked<'_, '_>,
+    least: usize,
+    claim: &Claim,
+) -> Result<String, Stop>
+    ensures { IfOk result (λ words. IsShownAs asked.entry.options.now least (said claim.now) (string_bytes words)) }
+{
+    let text = wanted_text(alloc, asked, claim)?;
+    let bytes = wanted_bytes(alloc, asked.options, least, claim)?;
+    Ok(format!(in alloc; "{text}{bytes}")?)
+}
+
+/// The claim of a question, so shown.
 pub fn shown_claim(
     alloc: Global,
     asked: Asked<'_, '_>,
@@ -97,8 +111,7 @@ pub fn shown_claim(
     if !asked.options.show && !asked.options.bytes {
         return Ok(String::new(alloc));
     }
-    let claim = claim_of(alloc, question.rule, &question.property)?;
-    let text = wanted_text(alloc, asked, &claim)?;
-    let bytes = wanted_bytes(alloc, asked.options, question, &claim)?;
-    Ok(format!(in alloc; "{text}{bytes}")?)
+    let rule = question.rule;
+    let claim = claim_of(alloc, rule, &question.property)?;
+    shown(alloc, asked, rule.bits as usize + 1, &claim)
 }

@@ -49,13 +49,18 @@ impl fmt::Display for Answered<'_, '_, '_, '_> {
     }
 }
 
-// The place in the file, and the line with a caret under it.
-fn placed(alloc: Global, file: &str, text: &str, span: Span) -> Result<String, AllocError>
+/// The place in the file, and the line with a caret under it and what is the matter there.
+pub fn placed(
+    alloc: Global,
+    file: &str,
+    text: &str,
+    span: Span,
+    message: &str,
+) -> Result<String, AllocError>
     ensures { IfOk result (λ words. PlacedAt file.now text.now span (string_bytes words)) }
 {
     let place = position_of(text.as_bytes(), span.start);
     let (line, column) = (place.line, place.column);
-    let message = "with this, and what stands before it, it gets too large";
     let beside = beside(file, text.as_bytes(), span, message);
     format!(in alloc; "{file}:{line}:{column}\n{beside}")
 }
@@ -67,7 +72,13 @@ pub fn ending(alloc: Global, file: &str, text: &str, answer: &Answer) -> Result<
     match answer {
         Answer::Never | Answer::First(_) => Ok(String::new(alloc)),
         Answer::TooLarge(_, None) => format!(in alloc; "{file}, whatever its lines say\n"),
-        Answer::TooLarge(_, Some(span)) => placed(alloc, file, text, *span),
+        Answer::TooLarge(_, Some(span)) => placed(
+            alloc,
+            file,
+            text,
+            *span,
+            "with this, and what stands before it, it gets too large",
+        ),
         Answer::Refused(refusal) => format!(in alloc; "{refusal}\n"),
     }
 }

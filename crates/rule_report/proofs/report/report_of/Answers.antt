@@ -13,6 +13,7 @@ returns c =
         names = e.names;
         layout = e.layout;
         rule = record { bits = e.bits; layout = e.ring; patterns = e.patterns; limits = e.limits; lines = e.lines };
+        starts = e.starts;
         once = e.once;
         rows = e.rows;
       },

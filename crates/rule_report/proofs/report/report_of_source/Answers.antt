@@ -13,6 +13,8 @@ returns c =
     (λ report h. record {
       claims = c.in_ok-claims.claims.items;
       are_claims = record { statements = c.in_ok-claims.ensures.all; each = c.in_ok-claims.ensures.each };
+      keeps = c.in_ok-keeps.keeps.items;
+      are_keeps = record { statements = c.in_ok-keeps.ensures.all; each = c.in_ok-keeps.ensures.each };
       title = title;
-      reports = subst (λ claims. Reports file title s o claims report) c.deref.ensures.value h;
+      reports = subst (λ keeps. Reports file title s o c.in_ok-claims.claims.items keeps report) c.deref-2.ensures.value (subst (λ claims. Reports file title s o claims c.deref-2.result.now report) c.deref.ensures.value h);
     }) c.report_on.ensures

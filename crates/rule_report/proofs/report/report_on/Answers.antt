@@ -4,6 +4,5 @@ use Rattle.rule_report.proofs.report.report_on.Goals as goal
 pub returns : goal.returns
 returns c =
     let a = c.args.asked in
-    reports_all a.file.now a.title.now a.source.now a.options.now c.args.claims.now c.in_ok-report.report c.in_ok-general_answers.field-0 c.in_ok-claim_answers.field-0 c.append.new.self c.append-2.new.self
-    c.in_ok-report.ensures.text c.in_ok-report.ensures.pictures c.in_ok-general_answers.ensures c.in_ok-claim_answers.ensures
-    c.in_ok-append.ensures.text c.in_ok-append.ensures.pictures c.in_ok-append-2.ensures.text c.in_ok-append-2.ensures.pictures
+    reports_all a.file.now a.title.now a.source.now a.options.now c.args.claims.now c.args.keeps.now c.in_ok-report.report c.in_ok-answers.field-0 c.append.new.self
+    c.in_ok-report.ensures.text c.in_ok-report.ensures.pictures c.in_ok-answers.ensures c.in_ok-append.ensures.text c.in_ok-append.ensures.pictures
