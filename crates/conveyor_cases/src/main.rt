@@ -60,6 +60,7 @@ fn run(rt: &HostRuntime) -> anyhow::Result<()> {
         pictures: false,
     };
     file_case(rt, "large.txt", &narrow)?;
+    file_case(rt, "kept-large.txt", &narrow)?;
     words_case(rt, &["conveyor", "--nonsense"])?;
     words_case(rt, &["conveyor", "--steps", "many", "rule.txt"])?;
     words_case(rt, &["conveyor", "--most"])?;
