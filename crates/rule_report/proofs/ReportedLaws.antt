@@ -9,7 +9,7 @@ use Rattle.rule_source.specs.declared.claimed.Claim.{Claim}
 use Rattle.rule_source.specs.declared.kept.Keep.{Keep}
 use Rattle.rule_source.specs.declared.source.Source.{Source}
 use Rattle.rule_report.specs.declared.options.Options.{Options}
-use Rattle.rule_report.specs.declared.report.Report.{Report}
+use Rattle.rule_report.specs.declared.piece.Report.{Report}
 use Rattle.rule_report.specs.declared.shown_rows.Picture.{Picture}
 use Rattle.rule_report.specs.ShownRows.{picture_name}
 use Rattle.rule_report.specs.Reported.{Answers, Item, Part, IsPart, Tells, Reports, front_pictures, front_words, given_pictures, items, picture_names}

@@ -11,7 +11,7 @@ use Rattle.rule_source.specs.declared.source.Source.{Source}
 use Rattle.rule_report.specs.declared.answer.Answer.{Answer}
 use Rattle.rule_report.specs.declared.answer.Answer.TheVariants.{Never, First, TooLarge, Refused}
 use Rattle.rule_report.specs.declared.options.Options.{Options}
-use Rattle.rule_report.specs.declared.report.Report.{Report}
+use Rattle.rule_report.specs.declared.piece.Report.{Report}
 use Rattle.rule_report.specs.declared.shown_rows.Picture.{Picture}
 use Rattle.rule_report.specs.declared.subject.Subject.{Subject}
 use Rattle.rule_report.specs.declared.subject.Subject.TheVariants as subject

@@ -6,7 +6,7 @@ ghost use Rattle.rule_report.specs.ShownRows.{picture_name};
 ghost use Rattle.rule_report.specs.Reported.{Tells, of_keep, picture_names};
 
 use crate::answer::Asked;
-use crate::report::{Report, picture_of};
+use crate::piece::{Report, picture_of};
 use crate::shown_keeping::shown_keeping;
 use crate::shown_rows::{Rows, history};
 use crate::stop::Stop;

@@ -5,6 +5,7 @@ pub mod answer;
 pub mod kept;
 pub mod narrow;
 pub mod options;
+pub mod piece;
 pub mod report;
 pub mod shown_claim;
 pub mod shown_keeping;
