@@ -45,8 +45,8 @@ fn check(keeping: &Keeping, longest: usize, found: Option<&Break>, said: Option<
     }
 }
 
-/// How many rows of one length are tried for a claim of an example: all of up to 20 modules of one bit, 10 of two, 7 of three, 5 of four and
-/// 4 of five, and fewer where a formula tries sets of places. A build that is not optimized tries fewer.
+/// How many rows of one length are tried for a claim of an example: all of up to 20 modules of one bit, 10 of two, 7 of three, 5 of
+/// four and 4 of five, and fewer where a formula tries sets of places. A build that is not optimized tries fewer.
 const TRIES: usize = if cfg!(debug_assertions) { 40_000 } else { 2_100_000 };
 
 /// Searches all kept claims of an example; of each whether the call says that it is kept.
