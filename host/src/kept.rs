@@ -87,7 +87,7 @@ impl fmt::Display for NotJudged {
 
 impl Error for NotJudged {}
 
-/// Seven numbers, as the library has them: which answer, and what it says.
+/// Six numbers, as the library has them: which answer, and what it says.
 #[repr(C)]
 struct Numbers {
     tag: u32,
@@ -143,7 +143,7 @@ fn answer(numbers: &Numbers, out: &[u32]) -> Kept {
             Kept::NotKept { moment, row: row.to_vec(), after: after.to_vec() }
         }
         2 => Kept::TooLarge { part: numbers.part, moment, large: large(numbers.reason, numbers.number) },
-        tag => unreachable!("the library's answers are 0 to 6, not {tag}"),
+        tag => unreachable!("the library's answers are 0 to 7, not {tag}"),
     }
 }
 
@@ -173,9 +173,6 @@ const ROOM: usize = 32;
 ///
 /// Where a first row is longer than 32 modules the call is made twice, the second time with room for it.
 pub fn judge_kept(rule: &str, name: &str, most: u32, words: u64) -> Result<Kept, NotJudged> {
-    if words < LEAST_WORDS {
-        return Err(NotJudged::TooFewWords { words });
-    }
     let mut out = room(ROOM).ok_or(NotJudged::NoMemory)?;
     loop {
         let numbers = call(rule, name, most, words, &mut out);
@@ -184,6 +181,7 @@ pub fn judge_kept(rule: &str, name: &str, most: u32, words: u64) -> Result<Kept,
             4 => return Err(NotJudged::NoSuchClaim),
             5 => out = room(numbers.length).ok_or(NotJudged::NoMemory)?,
             6 => return Err(NotJudged::NoMemory),
+            7 => return Err(NotJudged::TooFewWords { words }),
             _ => return Ok(answer(&numbers, &out)),
         }
     }

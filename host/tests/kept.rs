@@ -157,11 +157,12 @@ fn random_rules_are_kept_as_they_are_searched() {
                 kept += usize::from(said.is_none());
                 longer += usize::from(said.is_some() && sample.found.is_none());
             }
-            Err(_) => large += 1,
+            Err(Large::Bytes(1025..)) => large += 1,
+            Err(other) => panic!("{other} in\n{}", sample.text),
         }
     }
-    // where a row is found at all the search mostly finds it, and few are too large
-    assert!(kept >= 60 && longer <= 20 && large <= 15, "{kept} kept, {longer} with a longer row, {large} too large");
+    // where a row is found at all the search mostly finds it, and few are too large: all of these for their bytes
+    assert!(kept >= 60 && longer <= 20 && large <= 30, "{kept} kept, {longer} with a longer row, {large} too large");
 }
 
 /// A rule of which no module ever changes, with such a start and such a claim.
