@@ -1,4 +1,5 @@
-//! Links the proved library `export`, and has it proved and built first where that is due.
+//! Links the proved library `export`, and has it proved and built first where that is due; behind it the library of the kit that
+//! gives it the C library's heap.
 //!
 //! `rt lib`, run in the crate's folder, proves the library and everything below it and writes `crates/export/out/libexport.a`.
 //! It is run only if that file is missing or older than a source of one of these crates. Where an earlier check has proved
@@ -6,10 +7,13 @@
 
 use std::fs;
 use std::path::{Path, PathBuf};
-use std::process::Command;
+use std::process::{Command, Output};
 use std::time::SystemTime;
 
 const LIBRARY: &str = "export";
+
+/// The kit's library of the heap, in its folder `c`.
+const HEAP: &str = "libc_c";
 
 fn main() {
     let root = Path::new(env!("CARGO_MANIFEST_DIR")).join("..");
@@ -28,6 +32,32 @@ fn main() {
     let search = archive.parent().expect("the archive is in a folder");
     println!("cargo::rustc-link-search=native={}", search.display());
     println!("cargo::rustc-link-lib=static={LIBRARY}");
+
+    let kit = kit_folder();
+    println!("cargo::rerun-if-changed={}", kit.join(format!("lib{HEAP}.a")).display());
+    println!("cargo::rustc-link-search=native={}", kit.display());
+    println!("cargo::rustc-link-lib=static={HEAP}");
+}
+
+/// The folder of the kit's C libraries: `rt doc` prints the path of the page to read first, and it lies beside that page.
+fn kit_folder() -> PathBuf {
+    let output = output_of(Command::new("rt").arg("doc"));
+    let page = String::from_utf8(output.stdout).expect("`rt doc` prints a path");
+    Path::new(page.trim()).parent().expect("the kit's page is in a folder").join("c")
+}
+
+/// What a command of the kit prints, which has to succeed.
+fn output_of(command: &mut Command) -> Output {
+    match command.output() {
+        Ok(output) if output.status.success() => output,
+        Ok(output) => panic!(
+            "{command:?} failed: {}\n{}{}",
+            output.status,
+            String::from_utf8_lossy(&output.stdout),
+            String::from_utf8_lossy(&output.stderr),
+        ),
+        Err(error) => panic!("{command:?} cannot be run: {error}. The host needs the Rattle kit."),
+    }
 }
 
 /// The folders of the library's crate and of all below it, by crates.txt: a line `name: used used ...` for each crate,
@@ -83,15 +113,5 @@ fn is_due(archive: &Path, newest: Option<SystemTime>) -> bool {
 
 fn build(root: &Path) {
     let folder = root.join("crates").join(LIBRARY);
-    match Command::new("rt").arg("lib").current_dir(&folder).output() {
-        Ok(output) if output.status.success() => {}
-        Ok(output) => panic!(
-            "`rt lib` in {} failed: {}\n{}{}",
-            folder.display(),
-            output.status,
-            String::from_utf8_lossy(&output.stdout),
-            String::from_utf8_lossy(&output.stderr),
-        ),
-        Err(error) => panic!("`rt lib` cannot be run: {error}. The host needs the Rattle kit."),
-    }
+    output_of(Command::new("rt").arg("lib").current_dir(&folder));
 }

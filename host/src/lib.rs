@@ -57,11 +57,35 @@
 //! assert_eq!(Judge::new().judge_ring(&claim, 100)?, RingAnswer::Always);
 //! # Ok::<(), Refused>(())
 //! ```
+//!
+//! [`judge_kept`] says of a rule file whether a step keeps what it claims: whether every row with which a run may begin has the claim,
+//! and every row after a row that has it; else which row is the first where it fails.
+//!
+//! ```
+//! use ceivuron::{Kept, LEAST_WORDS, Moment, NotJudged, judge_kept};
+//!
+//! // A tray goes on to a free module. Behind the last module it stays where it is.
+//! let rule = "bits: tray
+//! table:
+//!   * | tray | module !tray -> !tray moves
+//!   tray | !tray | * -> tray moves
+//! start: 0 in tray
+//! kept some_tray: ~empty(tray)
+//! kept apart: all1 p: p in tray => p + 1 notin tray
+//! ";
+//! assert_eq!(judge_kept(rule, "some_tray", 1000, LEAST_WORDS)?, Kept::Kept);
+//!
+//! // Two trays may touch at the start.
+//! let first = Kept::NotKept { moment: Moment::Start, row: vec![1, 1], after: vec![1, 1] };
+//! assert_eq!(judge_kept(rule, "apart", 1000, LEAST_WORDS)?, first);
+//! # Ok::<(), NotJudged>(())
+//! ```
 
 mod answer;
 mod call;
 mod claim;
 mod judge;
+mod kept;
 pub mod line;
 mod memory;
 pub mod part;
@@ -77,6 +101,7 @@ pub use answer::{Answer, RingAnswer, RowAnswer};
 pub use call::{RingVerdict, RowVerdict, Verdict, call, call_ring, call_row};
 pub use claim::Claim;
 pub use judge::{Judge, Refused, WORK_LIMIT, judge};
+pub use kept::{Kept, LEAST_WORDS, Large, Moment, NotJudged, judge_kept};
 pub use memory::{floor, ring_floor, row_floor};
 pub use ring_claim::RingClaim;
 pub use row_claim::RowClaim;

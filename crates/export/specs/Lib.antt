@@ -1,4 +1,5 @@
--- The calls for other languages: an answer as three numbers.
+-- The calls for other languages: an answer as numbers.
 pub mod Verdict
 pub mod RowVerdict
 pub mod RingVerdict
+pub mod KeptVerdict

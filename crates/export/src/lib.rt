@@ -1,8 +1,10 @@
-// The calls for other languages, on claims, row claims and ring claims, and how many work words they ask for. It is a crate of its own so
-// that the static library is proved and built in seconds once the crates below it are.
+// The calls for other languages, on claims, row claims and ring claims, how many work words they ask for, and the call on what a step of a
+// rule file keeps. It is a crate of its own so that the static library is proved and built in seconds once the crates below it are.
 #![tactic(auto)]
 
 pub mod floor;
+pub mod kept_outcome;
+pub mod kept_verdict;
 pub mod ring_floor;
 pub mod ring_verdict;
 pub mod row_floor;

@@ -10,7 +10,7 @@ use Rattle.rules.specs.declared.property.Property.{Property}
 use Rattle.rules.specs.declared.rule.Rule.{Rule}
 use Rattle.rule_source.specs.declared.bits.Bits.{Bits}
 use Rattle.rule_report.specs.declared.subject.Subject.{Subject}
-use Rattle.rule_report.specs.Reading.{IsRuleOf}
+use Rattle.rule_source.specs.Reading.{IsRuleOf}
 use Rattle.rule_report.specs.Narrowing.{AsksFor, IsAnswered, IsFound, IsLarge, OfLines, SaysLarge}
 
 -- what is so of a question of the rule of some statements

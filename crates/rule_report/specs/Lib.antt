@@ -1,7 +1,6 @@
 -- What is told of a rule file: of a question, of its claim, of rows; the whole report.
 pub mod Subjects
 pub mod ShownRows
-pub mod Reading
 pub mod Narrowing
 pub mod Answers
 pub mod Told

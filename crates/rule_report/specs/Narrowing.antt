@@ -21,7 +21,7 @@ use Rattle.rule_source.specs.declared.source.Source.{Source}
 use Rattle.trees.specs.declared.position.Span.{Span}
 use Rattle.rule_report.specs.declared.subject.Subject.{Subject}
 use Rattle.rule_report.specs.declared.subject.Subject.TheVariants as subject
-use Rattle.rule_report.specs.Reading.{IsRuleOf}
+use Rattle.rule_source.specs.Reading.{IsRuleOf}
 
 -- the property that is asked for
 abbrev pub AsksFor : Bits → Subject → Property → Type 0

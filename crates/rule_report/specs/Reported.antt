@@ -16,7 +16,7 @@ use Rattle.rule_report.specs.declared.shown_rows.Picture.{Picture}
 use Rattle.rule_report.specs.declared.subject.Subject.{Subject}
 use Rattle.rule_report.specs.declared.subject.Subject.TheVariants as subject
 use Rattle.rule_report.specs.Answers.{TrueOf}
-use Rattle.rule_report.specs.Reading.{IsRead, AreClaims, AreKeeps}
+use Rattle.rule_source.specs.Reading.{IsRead, AreClaims, AreKeeps}
 use Rattle.rule_report.specs.KeptAnswers.{IsKeptAnswer, names_of}
 use Rattle.rule_report.specs.ShownClaim.{IsShown}
 use Rattle.rule_report.specs.ShownRows.{rows_from, rows_shown, picture_name}

@@ -9,3 +9,4 @@ pub mod Given
 pub mod Claimed
 pub mod Asking
 pub mod Kept
+pub mod Reading

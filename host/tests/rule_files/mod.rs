@@ -1,6 +1,8 @@
 //! A small reader of rule files, for searches that take no part of the proved code: the bits, whether there is a ring, the
-//! patterns of allowed rows, the limits that count, the table, and other limits as they stand there. What else stands in a
-//! file is passed over.
+//! patterns of allowed rows, the limits that count, the table, and as they stand there other limits, the starts and what is
+//! claimed to be kept. What else stands in a file is passed over.
+
+#![allow(dead_code)] // each search takes a part of it
 
 use std::fs;
 use std::path::Path;
@@ -27,16 +29,40 @@ struct Count {
     rest: usize,
 }
 
+/// A bit after a step: set or not, or as a bit was of the module (1) or of its left (0) or right neighbour (2).
+#[derive(Clone, Copy, Debug)]
+enum New {
+    Fixed(bool),
+    AsWas(usize, usize),
+}
+
+/// A line of the table: a pattern, the bits that change, and whether the module moves.
+struct Line {
+    when: Pattern,
+    changes: Vec<(usize, New)>,
+    moves: bool,
+}
+
+/// What the lines below a heading are.
+#[derive(Clone, Copy)]
+enum Section {
+    Outside,
+    Allowed,
+    Table,
+}
+
 pub struct Rule {
     pub bits: Vec<String>,
     pub ring: bool,
     allowed: Vec<Pattern>,
     counts: Vec<Count>,
     /// The limits that do not count, as formulas.
-    #[allow(dead_code)] // for rings alone
     pub formulas: Vec<String>,
-    /// The lines of the table: a pattern, the bits that are fixed, and whether the module moves.
-    table: Vec<(Pattern, Vec<(usize, bool)>, bool)>,
+    table: Vec<Line>,
+    /// The starts, as formulas.
+    pub starts: Vec<String>,
+    /// What is claimed to be kept: names, and formulas.
+    pub kept: Vec<(String, String)>,
 }
 
 fn bit(bits: &[String], name: &str) -> usize {
@@ -77,12 +103,54 @@ fn count(bits: &[String], text: &str) -> Option<Count> {
     let [set, "mod", modulus, "=", rest] = words[..] else {
         return None;
     };
-    let name = set.trim_matches('|');
-    Some(Count {
-        bit: (name != "row" && name != "ring").then(|| bit(bits, name)),
-        modulus: modulus.parse().unwrap(),
-        rest: rest.parse().unwrap(),
-    })
+    let bit = match set.strip_prefix('|')?.strip_suffix('|')? {
+        "row" | "ring" => None,
+        name => Some(bits.iter().position(|bit| bit == name)?),
+    };
+    Some(Count { bit, modulus: modulus.parse().unwrap(), rest: rest.parse().unwrap() })
+}
+
+/// What a word of a line of the table does to a bit: `tray`, `!tray`, `tray=drive`, `tray=left.tray` or `tray=right.tray`.
+fn change(bits: &[String], word: &str) -> (usize, New) {
+    let Some((name, source)) = word.split_once('=') else {
+        let (bit, set) = signed(bits, word);
+        return (bit, New::Fixed(set));
+    };
+    let (side, from) = match source.split_once('.') {
+        Some(("left", from)) => (0, from),
+        Some(("right", from)) => (2, from),
+        _ => (1, source),
+    };
+    (bit(bits, name), New::AsWas(side, bit(bits, from)))
+}
+
+fn table_line(bits: &[String], text: &str) -> Line {
+    let (when, what) = text.split_once("->").unwrap();
+    let (motion, changes): (Vec<&str>, Vec<&str>) =
+        what.split_whitespace().partition(|word| ["moves", "waits"].contains(word));
+    Line {
+        when: pattern(bits, when),
+        changes: changes.into_iter().map(|word| change(bits, word)).collect(),
+        moves: motion == ["moves"],
+    }
+}
+
+/// The lines of a file without their comments. A formula goes on in the next line where a bracket is open.
+fn lines(text: &str) -> Vec<String> {
+    let mut lines: Vec<String> = Vec::new();
+    let mut open = 0usize;
+    for line in text.lines().map(|line| line.split('#').next().unwrap().trim()) {
+        match lines.last_mut() {
+            Some(last) if open > 0 => *last += &format!(" {line}"),
+            _ => lines.push(line.to_string()),
+        }
+        open = line.chars().fold(open, |open, sign| match sign {
+            '(' | '{' => open + 1,
+            ')' | '}' => open.saturating_sub(1),
+            _ => open,
+        });
+    }
+    lines
 }
 
 impl Rule {
@@ -94,33 +162,47 @@ impl Rule {
             counts: Vec::new(),
             formulas: Vec::new(),
             table: Vec::new(),
+            starts: Vec::new(),
+            kept: Vec::new(),
         };
-        let mut heading = "";
-        for line in text.lines().map(|line| line.split('#').next().unwrap().trim()) {
-            if let Some(names) = line.strip_prefix("bits:") {
-                rule.bits = names.split_whitespace().map(String::from).collect();
-            } else if line == "ring:" {
-                rule.ring = true;
-            } else if line == "allowed:" || line == "table:" {
-                heading = line;
-            } else if let Some(limit) = line.strip_prefix("allowed:") {
-                match count(&rule.bits, limit) {
-                    Some(count) => rule.counts.push(count),
-                    None => rule.formulas.push(limit.trim().to_string()),
-                }
-            } else if ["start:", "never ", "claim ", "kept ", "row:"].iter().any(|word| line.starts_with(word)) {
-                heading = "";
-            } else if heading == "allowed:" && !line.is_empty() {
-                rule.allowed.push(pattern(&rule.bits, line));
-            } else if heading == "table:" && !line.is_empty() {
-                let (when, what) = line.split_once("->").unwrap();
-                let moves = what.split_whitespace().any(|word| word == "moves");
-                let fixed = what.split_whitespace().filter(|word| *word != "moves" && *word != "waits");
-                let fixed = fixed.map(|word| signed(&rule.bits, word)).collect();
-                rule.table.push((pattern(&rule.bits, when), fixed, moves));
-            }
+        let mut section = Section::Outside;
+        for line in lines(text).iter().filter(|line| !line.is_empty()) {
+            section = match line.split_once(':') {
+                Some((head, said)) => rule.statement(section, head, said.trim()),
+                None => rule.in_section(section, line),
+            };
         }
         rule
+    }
+
+    /// A line that begins with words and a colon; as what the lines below it are to be read.
+    fn statement(&mut self, section: Section, head: &str, said: &str) -> Section {
+        let bits = &self.bits;
+        match head.split_whitespace().collect::<Vec<_>>()[..] {
+            ["bits"] => self.bits = said.split_whitespace().map(String::from).collect(),
+            ["ring"] => self.ring = true,
+            ["allowed"] if said.is_empty() => return Section::Allowed,
+            ["allowed"] => match count(bits, said) {
+                Some(count) => self.counts.push(count),
+                None => self.formulas.push(said.to_string()),
+            },
+            ["table"] => return Section::Table,
+            ["start"] => self.starts.push(said.to_string()),
+            ["kept", name] => self.kept.push((name.to_string(), said.to_string())),
+            ["never" | "claim", _] | ["row"] => {}
+            _ => panic!("no line of a rule file begins so: {head}"),
+        }
+        section
+    }
+
+    /// A line below `allowed:` or `table:`; the next one is to be read as it was.
+    fn in_section(&mut self, section: Section, line: &str) -> Section {
+        match section {
+            Section::Outside => panic!("a line in no section: {line}"),
+            Section::Allowed => self.allowed.push(pattern(&self.bits, line)),
+            Section::Table => self.table.push(table_line(&self.bits, line)),
+        }
+        section
     }
 
     /// The rule of a file of the repository.
@@ -137,22 +219,45 @@ impl Rule {
         self.allowed.iter().any(|pattern| fits(pattern, seen))
     }
 
+    /// The number of the line of the table that counts: the first that fits.
+    pub fn line_number(&self, seen: Seen) -> Option<usize> {
+        self.table.iter().position(|line| fits(&line.when, seen))
+    }
+
+    fn line(&self, seen: Seen) -> Option<&Line> {
+        Some(&self.table[self.line_number(seen)?])
+    }
+
     pub fn moves(&self, seen: Seen) -> bool {
-        self.table.iter().find(|(pattern, _, _)| fits(pattern, seen)).is_some_and(|(_, _, moves)| *moves)
+        self.line(seen).is_some_and(|line| line.moves)
     }
 
     /// The module after a step.
-    #[allow(dead_code)] // for rings alone
     pub fn after(&self, seen: Seen) -> usize {
         let own = seen[1].unwrap();
-        let Some((_, fixed, _)) = self.table.iter().find(|(pattern, _, _)| fits(pattern, seen)) else {
+        let Some(line) = self.line(seen) else {
             return own;
         };
-        fixed.iter().fold(own, |module, (bit, set)| if *set { module | 1 << bit } else { module & !(1 << bit) })
+        line.changes.iter().fold(own, |module, (bit, new)| {
+            let set = match *new {
+                New::Fixed(set) => set,
+                New::AsWas(side, from) => seen[side].is_some_and(|bits| bits >> from & 1 == 1),
+            };
+            if set { module | 1 << bit } else { module & !(1 << bit) }
+        })
+    }
+
+    /// Module `at` of a row, or of a ring, with its neighbours: in a ring the last stands before the first, and the first behind the last.
+    pub fn seen(&self, row: &[usize], at: usize) -> Seen {
+        let length = row.len();
+        if self.ring {
+            [(at + length - 1) % length, at, (at + 1) % length].map(|at| Some(row[at]))
+        } else {
+            [at.checked_sub(1), Some(at), Some(at + 1)].map(|at| row.get(at?).copied())
+        }
     }
 
     /// Whether the limits that count hold of a row.
-    #[allow(dead_code)] // for rings alone
     pub fn counted(&self, row: &[usize]) -> bool {
         self.counts.iter().all(|count| {
             let have = row.iter().filter(|module| count.bit.is_none_or(|bit| *module >> bit & 1 == 1)).count();

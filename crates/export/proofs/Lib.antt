@@ -1,0 +1,2 @@
+-- Lemmas on the calls for other languages.
+pub mod KeptVerdictLaws

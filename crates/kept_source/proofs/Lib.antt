@@ -1,0 +1,2 @@
+-- Lemmas on what a file claims to be kept.
+pub mod NamedLaws
