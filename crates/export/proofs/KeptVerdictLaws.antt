@@ -1,5 +1,5 @@
 -- Two rows written one behind the other, and what an answer on a name says of the call's bytes and numbers.
-use Rattle.std.proofs.Common.{◌≡◌, ◌⊎◌, ◌≤◌, ◌*◌, ◌-◌, ◌++◌, ℕ, List, length, take, drop, refl, sym, ap, subst, inr, ◌∙◌, arith}
+use Rattle.std.proofs.Common.{◌≡◌, ◌≤◌, ◌*◌, ◌-◌, ◌++◌, ℕ, List, length, take, drop, refl, ap, subst, inr, ◌∙◌, arith}
 use Rattle.std.proofs.Math.Seq.{take-append_seam}
 use Rattle.std.proofs.lemmas.Slice.{drop-append-drop}
 use borrow.Rule.Slice.PartMut.{post_of, Post-is}
@@ -9,8 +9,7 @@ use Rattle.kept_check.specs.declared.answer.Answer.TheVariants as told
 use Rattle.kept_source.specs.Named.{Named}
 use Rattle.kept_source.specs.declared.in_file.InFile.{InFile}
 use Rattle.kept_source.specs.declared.in_file.InFile.TheVariants as answer
-use Rattle.export.specs.KeptVerdict.{AnsweredIn, AreAsLong, OutcomeOf}
-use Rattle.export.specs.declared.kept_outcome.KeptOutcome.{KeptOutcome}
+use Rattle.export.specs.KeptVerdict.{AreAsLong, OutcomeOf}
 use Rattle.export.specs.declared.kept_outcome.KeptOutcome.TheVariants as outcome
 
 behind_row : (row o : List ℕ) → post_of (length row) (2 * length row - length row) (row ++ drop (length row) o) ≡ drop (2 * length row) o

@@ -1,8 +1,8 @@
 -- What holds of all that was read of a file's claims holds of its statements.
-use Rattle.std.proofs.Common.{◌≡◌, ◌≢◌, ℕ, Option, Some, None, List, All, Contains, IfSome, length, map, sym, ap, subst, ◌∙◌, arith}
+use Rattle.std.proofs.Common.{◌≡◌, ◌≢◌, ℕ, Option, Some, None, List, All, Contains, IfSome, length, map, ap, subst, ◌∙◌, arith}
 use Rattle.std.proofs.lemmas.List.{length-map, get_or-map}
 use Rattle.std.proofs.lemmas.List.Elements.{All-map}
-use Rattle.rule_file.specs.Claims.{bytes_of, claim_name}
+use Rattle.rule_file.specs.Claims.{bytes_of}
 use Rattle.rule_file.specs.declared.token.Token.{Token}
 use Rattle.rule_file.specs.declared.tree.Statement.{Statement}
 use Rattle.rule_source.specs.Kept.{Keeps, kept_in}

@@ -1,5 +1,5 @@
 // Whether what a rule file claims to be kept is, by the claim's name.
-ghost use Rattle.std.specs.Prelude.{◌≡◌, ◌≢◌, All, Contains, IfNone, IfOk, IfSome, ◌↔◌, IsTrue};
+ghost use Rattle.std.specs.Prelude.{◌≡◌, ◌≢◌, All, Contains, IfNone, IfOk, IfSome};
 ghost use Rattle.kept_source.specs.Faults.{is_memory};
 ghost use Rattle.kept_source.specs.Named.{Named, OfSource};
 

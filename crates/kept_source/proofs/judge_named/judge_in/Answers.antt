@@ -1,4 +1,4 @@
-use Rattle.std.proofs.Common.{◌≡◌, ◌≢◌, List, All, Contains, subst}
+use Rattle.std.proofs.Common.{◌≢◌, List, All, Contains, subst}
 use Rattle.rule_source.specs.declared.kept.Keep.{Keep}
 use Rattle.kept_source.proofs.NamedLaws.{claims_none, contains_statement}
 use Rattle.kept_source.proofs.judge_named.judge_in.Goals as goal
