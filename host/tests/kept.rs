@@ -16,14 +16,23 @@ use keeping::{Break, Keeping, rows};
 use random_rules::{NAME, rule_file};
 use rule_files::Rule;
 
-/// As many classes, and as many words of work memory.
+/// As many classes, and as many words of work memory at first, and where these do not suffice.
 const MOST: u32 = 4000;
-const WORDS: u64 = 1 << 24;
+const WORDS: u64 = 1 << 22;
+const MORE_WORDS: u64 = 1 << 24;
 
 /// What the call says of a kept claim of a rule file: that it is kept, or where it is not; or what is too large.
 fn asked(text: &str, name: &str) -> Result<Option<Break>, Large> {
+    match asked_in(text, name, WORDS) {
+        Err(Large::Classes(_)) => asked_in(text, name, MORE_WORDS),
+        said => said,
+    }
+}
+
+/// The same, with so many words.
+fn asked_in(text: &str, name: &str, words: u64) -> Result<Option<Break>, Large> {
     let modules = |row: Vec<u32>| row.into_iter().map(|module| module as usize).collect();
-    match judge_kept(text, name, MOST, WORDS) {
+    match judge_kept(text, name, MOST, words) {
         Ok(Kept::Kept) => Ok(None),
         Ok(Kept::NotKept { moment, row, after }) => {
             Ok(Some(Break { moment, row: modules(row), after: modules(after) }))
@@ -146,21 +155,50 @@ fn samples() -> Vec<Sample> {
     samples
 }
 
+/// How many random rules keep their claim, of how many a row is said that is longer than was searched, and how many are too large.
+#[derive(Debug, Default, PartialEq)]
+struct Tally {
+    kept: usize,
+    longer: usize,
+    large: usize,
+}
+
+impl Tally {
+    /// Asks the call of one more rule, and checks what it says. Where no row was found rows of up to 10 modules of one bit or two are
+    /// searched, and of up to 6 of three.
+    fn count(&mut self, sample: &Sample) {
+        let keeping = sample.keeping();
+        let said = match asked(&sample.text, NAME) {
+            Ok(said) => said,
+            Err(Large::Bytes(1025..)) => return self.large += 1,
+            Err(other) => panic!("{other} in\n{}", sample.text),
+        };
+        if sample.found.is_some() {
+            return check(&keeping, sample.longest, sample.found.as_ref(), said.as_ref(), &sample.text);
+        }
+        let longest = keeping.searchable(10, 1_100_000);
+        check(&keeping, longest, keeping.first(longest).as_ref(), said.as_ref(), &sample.text);
+        self.kept += usize::from(said.is_none());
+        self.longer += usize::from(said.is_some());
+    }
+}
+
 #[test]
 fn random_rules_are_kept_as_they_are_searched() {
     let samples = samples();
-    let (mut kept, mut longer, mut large) = (0, 0, 0);
-    for sample in &samples {
-        match asked(&sample.text, NAME) {
-            Ok(said) => {
-                check(&sample.keeping(), sample.longest, sample.found.as_ref(), said.as_ref(), &sample.text);
-                kept += usize::from(said.is_none());
-                longer += usize::from(said.is_some() && sample.found.is_none());
-            }
-            Err(Large::Bytes(1025..)) => large += 1,
-            Err(other) => panic!("{other} in\n{}", sample.text),
-        }
-    }
+    let tally_of = |samples: &[Sample]| {
+        let mut tally = Tally::default();
+        samples.iter().for_each(|sample| tally.count(sample));
+        tally
+    };
+    let Tally { kept, longer, large } = thread::scope(|scope| {
+        let counted: Vec<_> = samples.chunks(25).map(|some| scope.spawn(move || tally_of(some))).collect();
+        counted.into_iter().map(|tally| tally.join().unwrap()).fold(Tally::default(), |all, some| Tally {
+            kept: all.kept + some.kept,
+            longer: all.longer + some.longer,
+            large: all.large + some.large,
+        })
+    });
     // where a row is found at all the search mostly finds it, and few are too large: all of these for their bytes
     assert!(kept >= 60 && longer <= 20 && large <= 30, "{kept} kept, {longer} with a longer row, {large} too large");
 }
@@ -176,6 +214,18 @@ fn a_first_row_may_be_long() {
     let text = still("|row| mod 16 = 15 & |row| mod 5 = 4", "false");
     let row = vec![0; 79];
     assert_eq!(asked(&text, NAME).unwrap(), Some(Break { moment: Moment::Start, row: row.clone(), after: row }));
+}
+
+#[test]
+fn more_memory_judges_more() {
+    // the counter of the example with a bit more: 16 trays are taken for none, first where 15 of them are joined by another
+    let folder = Path::new(env!("CARGO_MANIFEST_DIR")).join("../examples/rules");
+    let text = fs::read_to_string(folder.join("counter.txt")).unwrap().replace("mod 8", "mod 16");
+    let few = judge_kept(&text, "zero_is_empty", MOST, LEAST_WORDS).unwrap();
+    assert!(matches!(few, Kept::TooLarge { part: 2, moment: Moment::Step, large: Large::Classes(_) }), "{few:?}");
+    let row = |first: u32| (0..31).map(|place| (place + first) % 2).collect();
+    let first = Kept::NotKept { moment: Moment::Step, row: row(0), after: row(1) };
+    assert_eq!(judge_kept(&text, "zero_is_empty", MOST, MORE_WORDS), Ok(first));
 }
 
 #[test]
