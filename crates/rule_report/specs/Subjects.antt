@@ -31,8 +31,8 @@ short_of (Claim how name statement) = name.now
 
 -- what is said where no row is as it is asked for
 abbrev pub settled_of : Layout → Subject → List ℕ
-settled_of Line SomeAllowed = codes "no: no row is allowed, of whatever length, so what follows is empty talk"
-settled_of Ring SomeAllowed = codes "no: no ring is allowed, of whatever length, so what follows is empty talk"
+settled_of Line SomeAllowed = codes "no: no row is allowed, of whatever length, so what is said of allowed rows is empty talk"
+settled_of Ring SomeAllowed = codes "no: no ring is allowed, of whatever length, so what is said of allowed rings is empty talk"
 settled_of s NoneStuck = codes "settled for every length"
 settled_of s AllowedKept = codes "settled for every length"
 settled_of s (Claim put.Claim name statement) = codes "settled for every length"

@@ -60,10 +60,10 @@ impl<'s> Subject<'s> {
     {
         match (layout, self) {
             (Layout::Line, Subject::SomeAllowed) => {
-                "no: no row is allowed, of whatever length, so what follows is empty talk"
+                "no: no row is allowed, of whatever length, so what is said of allowed rows is empty talk"
             }
             (Layout::Ring, Subject::SomeAllowed) => {
-                "no: no ring is allowed, of whatever length, so what follows is empty talk"
+                "no: no ring is allowed, of whatever length, so what is said of allowed rings is empty talk"
             }
             (_, Subject::NoneStuck | Subject::AllowedKept | Subject::Claim(Put::Claim, _, _)) => {
                 "settled for every length"
