@@ -40,8 +40,8 @@ fn verdict_of(
     Ok(verdict)
 }
 
-// The same, where the part has this number.
-fn at_moment(
+/// What is found at that moment of the part with this number.
+pub fn at_moment(
     alloc: Global,
     asked: Asked<'_, '_>,
     part: &Formula,
