@@ -4,3 +4,4 @@ pub mod CoveringLaws
 pub mod WrittenLaws
 pub mod NamesLaws
 pub mod KindsLaws
+pub mod SectionsLaws

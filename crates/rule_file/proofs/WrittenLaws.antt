@@ -50,6 +50,8 @@ statement_some (statement.Start h f) = omega arith
 statement_some (statement.Never n p) = omega arith
 statement_some (statement.Claim n f) = omega arith
 statement_some (statement.Kept n f) = omega arith
+statement_some (statement.Helpers h) = omega arith
+statement_some (statement.Helper l f) = omega arith
 statement_some (statement.Row h ms) = omega arith
 
 pub line_some : (l : Line) → 0 < length (line_tokens l)

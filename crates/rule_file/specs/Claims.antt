@@ -7,11 +7,12 @@ use Rattle.rule_file.specs.declared.tree.Statement.{Statement}
 use Rattle.rule_file.specs.declared.tree.Statement.TheVariants as statement
 use Rattle.rule_file.specs.declared.tree.Line.{Line}
 
--- the name of a claim
+-- the name of a claim, or of a helper
 abbrev pub claim_name : Statement → Option Token
 claim_name (statement.Never n p) = Some n.name
 claim_name (statement.Claim n f) = Some n.name
 claim_name (statement.Kept n f) = Some n.name
+claim_name (statement.Helper l f) = Some l.name
 claim_name _ = None
 
 abbrev pub claim_names : List Line → List Token

@@ -24,7 +24,7 @@ pub record IsPattern (p : Pattern) : Type 0 where
   pub second : p.second.kind ≡ kind.Bar
   pub right : All IsTerm p.right.items
 
--- a statement begins with the word that its variant says; a line below a heading begins with no word of its own
+-- a statement begins with the word that its variant says; a line below a heading begins with no word of its own, and one below `helpers:` with a name
 abbrev pub HasWord : Statement → Type 0
 HasWord (statement.Allowed h) = h.word.kind ≡ kind.Allowed
 HasWord (statement.Limit h f) = h.word.kind ≡ kind.Allowed
@@ -35,6 +35,8 @@ HasWord (statement.Start h f) = h.word.kind ≡ kind.Start
 HasWord (statement.Never n p) = n.word.kind ≡ kind.Never
 HasWord (statement.Claim n f) = n.word.kind ≡ kind.Claim
 HasWord (statement.Kept n f) = n.word.kind ≡ kind.Kept
+HasWord (statement.Helpers h) = h.word.kind ≡ kind.Helpers
+HasWord (statement.Helper l f) = l.name.kind ≡ kind.Name
 HasWord (statement.Row h ms) = h.word.kind ≡ kind.Row
 
 abbrev pub HaveWords : List Line → Type 0

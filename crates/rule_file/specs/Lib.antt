@@ -4,3 +4,4 @@ pub mod Covering
 pub mod Written
 pub mod Claims
 pub mod Kinds
+pub mod Sections

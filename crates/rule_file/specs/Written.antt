@@ -17,6 +17,7 @@ use Rattle.rule_file.specs.declared.tree.Module.{Module}
 use Rattle.rule_file.specs.declared.tree.Module.TheVariants as module_
 use Rattle.rule_file.specs.declared.tree.Heading.{Heading}
 use Rattle.rule_file.specs.declared.tree.Named.{Named}
+use Rattle.rule_file.specs.declared.tree.Label.{Label}
 use Rattle.rule_file.specs.declared.tree.Statement.{Statement}
 use Rattle.rule_file.specs.declared.tree.Statement.TheVariants as statement
 use Rattle.rule_file.specs.declared.tree.Line.{Line}
@@ -63,6 +64,9 @@ heading_tokens h = h.word ∷ h.colon ∷ []
 abbrev pub named_tokens : Named → List Token
 named_tokens n = n.word ∷ n.name ∷ n.colon ∷ []
 
+abbrev pub label_tokens : Label → List Token
+label_tokens l = l.name ∷ l.colon ∷ []
+
 abbrev pub statement_tokens : Statement → List Token
 statement_tokens (statement.Allowed h) = heading_tokens h
 statement_tokens (statement.Limit h f) = heading_tokens h ++ f ∷ []
@@ -73,6 +77,8 @@ statement_tokens (statement.Start h f) = heading_tokens h ++ f ∷ []
 statement_tokens (statement.Never n p) = named_tokens n ++ pattern_tokens p
 statement_tokens (statement.Claim n f) = named_tokens n ++ f ∷ []
 statement_tokens (statement.Kept n f) = named_tokens n ++ f ∷ []
+statement_tokens (statement.Helpers h) = heading_tokens h
+statement_tokens (statement.Helper l f) = label_tokens l ++ f ∷ []
 statement_tokens (statement.Row h ms) = heading_tokens h ++ flat_map module_tokens ms.items
 
 abbrev pub line_tokens : Line → List Token

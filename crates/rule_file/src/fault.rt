@@ -75,7 +75,7 @@ impl Wanted {
         match self {
             Wanted::Bits => "`bits:` with the names of a module's bits",
             Wanted::Statement =>
-                "`allowed:`, `table:`, `start:`, `never`, `claim`, `kept` or `row:`",
+                "`allowed:`, `table:`, `start:`, `never`, `claim`, `kept`, `helpers:` or `row:`",
             Wanted::Colon => "`:`",
             Wanted::Name => "a name",
             Wanted::NameOrEnd => "a name or the end of the line",
@@ -107,6 +107,7 @@ fn is_word(kind: Kind) -> bool {
         | Kind::Never
         | Kind::Claim
         | Kind::Kept
+        | Kind::Helpers
         | Kind::Row
         | Kind::Module
         | Kind::Missing

@@ -8,6 +8,7 @@ mod modules;
 pub mod names;
 pub mod parse;
 mod patterns;
+pub mod section;
 mod statements;
 pub mod token;
 pub mod tree;

@@ -107,7 +107,7 @@ fn push_some(names: &mut Vec<Token>, name: Option<Token>) -> Result<(), AllocErr
     Ok(())
 }
 
-// The names of the claims, in their order.
+// The names of the claims and helpers, in their order.
 fn names_of(alloc: Global, lines: &[Line]) -> Result<Vec<Token>, AllocError>
     ensures { IfOk result (λ names. names.items ≡ claim_names lines.now) }
 {
@@ -118,7 +118,7 @@ fn names_of(alloc: Global, lines: &[Line]) -> Result<Vec<Token>, AllocError>
     Ok(names)
 }
 
-/// Checks that no two claims have one name. Fails at the second, and for memory.
+/// Checks that no two claims or helpers have one name. Fails at the second, and for memory.
 pub fn check_claims(alloc: Global, text: &[u8], lines: &[Line]) -> Result<(), Fault>
     ensures { IfOk result (λ _. Differ text.now (claim_names lines.now)) }
 {

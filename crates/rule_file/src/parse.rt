@@ -5,12 +5,14 @@ ghost use Rattle.std.specs.List.{flat_map};
 ghost use Rattle.rule_file.specs.Covering.{Covers};
 ghost use Rattle.rule_file.specs.Claims.{AreBits, claim_names, Differ};
 ghost use Rattle.rule_file.specs.Kinds.{HasWord, HaveWords};
+ghost use Rattle.rule_file.specs.Sections.{HaveSections, StandsIn};
 ghost use Rattle.rule_file.specs.Written.{line_tokens, ring_tokens, file_tokens};
 
 use crate::cursor::{expected, run};
 use crate::fault::{Fault, Wanted};
 use crate::names::{check_bits, check_claims};
-use crate::statements::{Section, heading, section_behind, statement, wanted_behind};
+use crate::section::{Section, section_behind};
+use crate::statements::{heading, statement, wanted_behind};
 use crate::token::{Kind, Token, tokens};
 use crate::tree::{File, Line, RingLine};
 use std::alloc::Global;
@@ -37,6 +39,7 @@ fn line<'a>(
 ) -> Result<(Line, &'a [Token]), Fault>
     ensures words { IfOk result (λ r. line_tokens r.0 ++ r.1.now ≡ tokens.now) }
     ensures kind { IfOk result (λ r. HasWord r.0.statement) }
+    ensures stands { IfOk result (λ r. StandsIn section r.0.statement) }
 {
     let (statement, rest) = statement(alloc, section, tokens)?;
     let (ends, rest) = line_ends(alloc, rest, wanted_behind(&statement))?;
@@ -48,6 +51,7 @@ fn line<'a>(
 fn lines(alloc: Global, tokens: &[Token]) -> Result<Vec<Line>, Fault>
     ensures words { IfOk result (λ all. flat_map line_tokens all.items ≡ tokens.now) }
     ensures kinds { IfOk result (λ all. HaveWords all.items) }
+    ensures sections { IfOk result (λ all. HaveSections all.items) }
 {
     let mut all = Vec::new(alloc);
     let mut section = Section::Outside;
@@ -100,6 +104,7 @@ fn bits<'a>(
 fn file(alloc: Global, text: &[u8], tokens: &[Token]) -> Result<File, Fault>
     ensures words { IfOk result (λ f. file_tokens f ≡ tokens.now) }
     ensures kinds { IfOk result (λ f. HaveWords f.lines.items) }
+    ensures sections { IfOk result (λ f. HaveSections f.lines.items) }
     ensures bits { IfOk result (λ f. AreBits text.now f.bits.items) }
     ensures claims { IfOk result (λ f. Differ text.now (claim_names f.lines.items)) }
 {
@@ -121,10 +126,11 @@ fn file(alloc: Global, text: &[u8], tokens: &[Token]) -> Result<File, Fault>
 }
 
 /// The tree of a rule file. Its tokens, written one after the other, are those of the text: nothing is left out, and each stands in one place; each
-/// statement is what its first word says. It has one to five bits, none of which is called `last`; the names of the bits differ, and so do those of the claims. Fails where the text is no rule file, and for memory.
+/// statement is what its first word says, and stands below the heading that it needs. It has one to five bits, none of which is called `last`; the names of the bits differ, and so do those of the claims and helpers. Fails where the text is no rule file, and for memory.
 pub fn read(alloc: Global, text: &str) -> Result<File, Fault>
     ensures words { IfOk result (λ f. Covers text.now 0 (file_tokens f) (length text.now)) }
     ensures kinds { IfOk result (λ f. HaveWords f.lines.items) }
+    ensures sections { IfOk result (λ f. HaveSections f.lines.items) }
     ensures bits { IfOk result (λ f. AreBits text.now f.bits.items) }
     ensures claims { IfOk result (λ f. Differ text.now (claim_names f.lines.items)) }
 {

@@ -1,15 +1,20 @@
 // Reads statements: one by the word that it begins with, or by the section in which it stands.
 ghost use Rattle.std.specs.Prelude.{◌≡◌, ◌++◌, IfOk};
 ghost use Rattle.rule_file.specs.Kinds.{HasWord};
-ghost use Rattle.rule_file.specs.Written.{heading_tokens, named_tokens, statement_tokens};
+ghost use Rattle.rule_file.specs.declared.token.Kind.TheVariants.{Name};
+ghost use Rattle.rule_file.specs.Sections.{StandsIn};
+ghost use Rattle.rule_file.specs.declared.section.Section.{Section};
+ghost use Rattle.rule_file.specs.declared.section.Section.TheVariants.{Helpers, Table};
+ghost use Rattle.rule_file.specs.Written.{heading_tokens, label_tokens, named_tokens, statement_tokens};
 
 use crate::cursor::{expected, front, token};
 use crate::effects::effects;
 use crate::fault::{Fault, Wanted};
 use crate::modules::modules;
 use crate::patterns::pattern;
+use crate::section::Section;
 use crate::token::{Kind, Token};
-use crate::tree::{Heading, Named, Statement};
+use crate::tree::{Heading, Label, Named, Statement};
 use std::alloc::Global;
 
 /// A word of that kind and its colon.
@@ -41,6 +46,7 @@ fn named<'a>(tokens: &'a [Token], kind: Kind) -> Result<(Named, &'a [Token]), Fa
 fn allowed<'a>(tokens: &'a [Token]) -> Result<(Statement, &'a [Token]), Fault>
     ensures words { IfOk result (λ r. statement_tokens r.0 ++ r.1.now ≡ tokens.now) }
     ensures kind { IfOk result (λ r. HasWord r.0) }
+    ensures stands { (s : Section) → IfOk result (λ r. StandsIn s r.0) }
 {
     let (heading, rest) = heading(tokens, Kind::Allowed, Wanted::Statement)?;
     match front(rest, Kind::Formula) {
@@ -52,6 +58,7 @@ fn allowed<'a>(tokens: &'a [Token]) -> Result<(Statement, &'a [Token]), Fault>
 fn table_line<'a>(alloc: Global, tokens: &'a [Token]) -> Result<(Statement, &'a [Token]), Fault>
     ensures words { IfOk result (λ r. statement_tokens r.0 ++ r.1.now ≡ tokens.now) }
     ensures kind { IfOk result (λ r. HasWord r.0) }
+    ensures stands { IfOk result (λ r. StandsIn Table r.0) }
 {
     let (when, rest) = pattern(alloc, tokens)?;
     let (arrow, rest) = token(rest, Kind::Arrow, Wanted::TermOrArrow)?;
@@ -63,6 +70,7 @@ fn table_line<'a>(alloc: Global, tokens: &'a [Token]) -> Result<(Statement, &'a 
 fn start<'a>(tokens: &'a [Token]) -> Result<(Statement, &'a [Token]), Fault>
     ensures words { IfOk result (λ r. statement_tokens r.0 ++ r.1.now ≡ tokens.now) }
     ensures kind { IfOk result (λ r. HasWord r.0) }
+    ensures stands { (s : Section) → IfOk result (λ r. StandsIn s r.0) }
 {
     let (heading, rest) = heading(tokens, Kind::Start, Wanted::Statement)?;
     let (formula, rest) = token(rest, Kind::Formula, Wanted::Formula)?;
@@ -72,6 +80,7 @@ fn start<'a>(tokens: &'a [Token]) -> Result<(Statement, &'a [Token]), Fault>
 fn never<'a>(alloc: Global, tokens: &'a [Token]) -> Result<(Statement, &'a [Token]), Fault>
     ensures words { IfOk result (λ r. statement_tokens r.0 ++ r.1.now ≡ tokens.now) }
     ensures kind { IfOk result (λ r. HasWord r.0) }
+    ensures stands { (s : Section) → IfOk result (λ r. StandsIn s r.0) }
 {
     let (named, rest) = named(tokens, Kind::Never)?;
     let (pattern, rest) = pattern(alloc, rest)?;
@@ -81,6 +90,7 @@ fn never<'a>(alloc: Global, tokens: &'a [Token]) -> Result<(Statement, &'a [Toke
 fn claim<'a>(tokens: &'a [Token]) -> Result<(Statement, &'a [Token]), Fault>
     ensures words { IfOk result (λ r. statement_tokens r.0 ++ r.1.now ≡ tokens.now) }
     ensures kind { IfOk result (λ r. HasWord r.0) }
+    ensures stands { (s : Section) → IfOk result (λ r. StandsIn s r.0) }
 {
     let (named, rest) = named(tokens, Kind::Claim)?;
     let (formula, rest) = token(rest, Kind::Formula, Wanted::Formula)?;
@@ -90,36 +100,42 @@ fn claim<'a>(tokens: &'a [Token]) -> Result<(Statement, &'a [Token]), Fault>
 fn kept<'a>(tokens: &'a [Token]) -> Result<(Statement, &'a [Token]), Fault>
     ensures words { IfOk result (λ r. statement_tokens r.0 ++ r.1.now ≡ tokens.now) }
     ensures kind { IfOk result (λ r. HasWord r.0) }
+    ensures stands { (s : Section) → IfOk result (λ r. StandsIn s r.0) }
 {
     let (named, rest) = named(tokens, Kind::Kept)?;
     let (formula, rest) = token(rest, Kind::Formula, Wanted::Formula)?;
     Ok((Statement::Kept(named, formula), rest))
 }
 
+// A name and its colon.
+fn label<'a>(tokens: &'a [Token]) -> Result<(Label, &'a [Token]), Fault>
+    ensures words { IfOk result (λ r. label_tokens r.0 ++ r.1.now ≡ tokens.now) }
+    ensures kind { IfOk result (λ r. r.0.name.kind ≡ Name) }
+{
+    let (name, rest) = token(tokens, Kind::Name, Wanted::Name)?;
+    let (colon, rest) = token(rest, Kind::Colon, Wanted::Colon)?;
+    Ok((Label { name, colon }, rest))
+}
+
+// A line below `helpers:`.
+fn helper<'a>(tokens: &'a [Token]) -> Result<(Statement, &'a [Token]), Fault>
+    ensures words { IfOk result (λ r. statement_tokens r.0 ++ r.1.now ≡ tokens.now) }
+    ensures kind { IfOk result (λ r. HasWord r.0) }
+    ensures stands { IfOk result (λ r. StandsIn Helpers r.0) }
+{
+    let (label, rest) = label(tokens)?;
+    let (formula, rest) = token(rest, Kind::Formula, Wanted::Formula)?;
+    Ok((Statement::Helper(label, formula), rest))
+}
+
 fn row<'a>(alloc: Global, tokens: &'a [Token]) -> Result<(Statement, &'a [Token]), Fault>
     ensures words { IfOk result (λ r. statement_tokens r.0 ++ r.1.now ≡ tokens.now) }
     ensures kind { IfOk result (λ r. HasWord r.0) }
+    ensures stands { (s : Section) → IfOk result (λ r. StandsIn s r.0) }
 {
     let (heading, rest) = heading(tokens, Kind::Row, Wanted::Statement)?;
     let (modules, rest) = modules(alloc, rest)?;
     Ok((Statement::Row(heading, modules), rest))
-}
-
-/// What the lines below a heading are.
-#[derive(Clone, Copy)]
-pub enum Section {
-    Outside,
-    Allowed,
-    Table,
-}
-
-/// What the lines behind a statement are.
-pub fn section_behind(section: Section, statement: &Statement) -> Section {
-    match statement {
-        Statement::Allowed(_) => Section::Allowed,
-        Statement::Table(_) => Section::Table,
-        _ => section,
-    }
 }
 
 // A line that begins with no word of its own: it is as its section says.
@@ -130,6 +146,7 @@ fn in_section<'a>(
 ) -> Result<(Statement, &'a [Token]), Fault>
     ensures words { IfOk result (λ r. statement_tokens r.0 ++ r.1.now ≡ tokens.now) }
     ensures kind { IfOk result (λ r. HasWord r.0) }
+    ensures stands { IfOk result (λ r. StandsIn section r.0) }
 {
     match section {
         Section::Outside => Err(expected(Wanted::Statement, tokens)),
@@ -138,6 +155,7 @@ fn in_section<'a>(
             Ok((Statement::Pattern(pattern), rest))
         }
         Section::Table => table_line(alloc, tokens),
+        Section::Helpers => helper(tokens),
     }
 }
 
@@ -149,6 +167,7 @@ pub fn statement<'a>(
 ) -> Result<(Statement, &'a [Token]), Fault>
     ensures words { IfOk result (λ r. statement_tokens r.0 ++ r.1.now ≡ tokens.now) }
     ensures kind { IfOk result (λ r. HasWord r.0) }
+    ensures stands { IfOk result (λ r. StandsIn section r.0) }
 {
     let Some(first) = tokens.first() else {
         return Err(expected(Wanted::Statement, tokens));
@@ -165,6 +184,10 @@ pub fn statement<'a>(
         Kind::Never => never(alloc, tokens),
         Kind::Claim => claim(tokens),
         Kind::Kept => kept(tokens),
+        Kind::Helpers => {
+            let (heading, rest) = heading(tokens, Kind::Helpers, Wanted::Statement)?;
+            Ok((Statement::Helpers(heading), rest))
+        }
         Kind::Row => row(alloc, tokens),
         _ => in_section(alloc, section, tokens),
     }

@@ -1,6 +1,6 @@
 // The tokens of a rule file: words, signs, formulas and the ends of lines. Blanks, and comments from `#` to the end of the line, stand between them.
 //
-// A formula is one token, from the first byte behind the colon of `claim NAME:`, `kept NAME:`, `allowed:` or `start:` to the last word on that line.
+// A formula is one token, from the first byte behind the colon of `claim NAME:`, `kept NAME:`, `NAME:`, `allowed:` or `start:` to the last word on that line.
 // Where a bracket is open at the end of a line it goes on in the next one. So the lexer keeps where in a line it stands (`Stage`).
 ghost use Rattle.std.specs.Prelude.{◌≡◌, ℕ, ◌+◌, ◌<◌, ◌≤◌, IsTrue, IfOk, length, take, drop};
 ghost use Rattle.std.specs.List.{prefix_len};
@@ -23,6 +23,7 @@ pub enum Kind {
     Never,
     Claim,
     Kept,
+    Helpers,
     Row,
     Module,
     Missing,
@@ -56,7 +57,7 @@ enum Stage {
     Start,
     // behind `claim` or `kept`
     Claim,
-    // behind `allowed` or `start`, and behind the name of a claim
+    // behind `allowed` or `start`, behind the name of a claim, and behind a name that a line begins with
     Heading,
     // behind the colon of such a heading
     Formula,
@@ -66,7 +67,7 @@ enum Stage {
 fn stage_behind(stage: Stage, kind: Kind) -> Stage {
     match (stage, kind) {
         (_, Kind::LineEnd) => Stage::Start,
-        (Stage::Start, Kind::Allowed | Kind::Start) => Stage::Heading,
+        (Stage::Start, Kind::Allowed | Kind::Start | Kind::Name) => Stage::Heading,
         (Stage::Start, Kind::Claim | Kind::Kept) => Stage::Claim,
         (Stage::Claim, _) => Stage::Heading,
         (Stage::Heading, Kind::Colon) => Stage::Formula,
@@ -75,7 +76,7 @@ fn stage_behind(stage: Stage, kind: Kind) -> Stage {
 }
 
 // The words that mean something in a rule file.
-const WORDS: [(&[u8], Kind); 15] = [
+const WORDS: [(&[u8], Kind); 16] = [
     (b"bits", Kind::Bits),
     (b"ring", Kind::Ring),
     (b"allowed", Kind::Allowed),
@@ -84,6 +85,7 @@ const WORDS: [(&[u8], Kind); 15] = [
     (b"never", Kind::Never),
     (b"claim", Kind::Claim),
     (b"kept", Kind::Kept),
+    (b"helpers", Kind::Helpers),
     (b"row", Kind::Row),
     (b"module", Kind::Module),
     (b"none", Kind::Missing),

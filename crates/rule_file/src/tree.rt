@@ -87,6 +87,13 @@ pub struct Named {
     pub colon: Token,
 }
 
+/// A name with its colon, as `drives_apart:`.
+#[derive(Clone, Copy)]
+pub struct Label {
+    pub name: Token,
+    pub colon: Token,
+}
+
 /// What stands on a line, but for the names of the bits. A formula is one token.
 #[derive(Drop)]
 pub enum Statement {
@@ -101,6 +108,9 @@ pub enum Statement {
     Never(Named, Pattern),
     Claim(Named, Token),
     Kept(Named, Token),
+    Helpers(Heading),
+    // what may help to keep a claim
+    Helper(Label, Token),
     Row(Heading, Vec<Module>),
 }
 
@@ -179,7 +189,7 @@ impl Change {
 }
 
 impl Statement {
-    /// The name of a claim, at `never`, `claim` and `kept`.
+    /// The name of a claim, at `never`, `claim` and `kept`, or of a helper.
     pub fn claim_name(&self) -> Option<Token>
         ensures { result ≡ claim_name self.now }
     {
@@ -187,6 +197,7 @@ impl Statement {
             Statement::Never(named, _) | Statement::Claim(named, _) | Statement::Kept(named, _) => {
                 Some(named.name)
             }
+            Statement::Helper(label, _) => Some(label.name),
             _ => None,
         }
     }

@@ -130,6 +130,7 @@ fn put_statement(out: &mut String, text: &str, statement: &Statement) -> Result<
     match statement {
         Statement::Allowed(_) => out.push_str("\nallowed:")?,
         Statement::Table(_) => out.push_str("\ntable:")?,
+        Statement::Helpers(_) => out.push_str("\nhelpers:")?,
         Statement::Limit(_, formula) => {
             out.push_str("allowed: ")?;
             put(out, text, *formula)?;
@@ -154,6 +155,12 @@ fn put_statement(out: &mut String, text: &str, statement: &Statement) -> Result<
         }
         Statement::Claim(named, formula) | Statement::Kept(named, formula) => {
             put_named(out, text, named)?;
+            put(out, text, *formula)?;
+        }
+        Statement::Helper(label, formula) => {
+            out.push_str("  ")?;
+            put(out, text, label.name)?;
+            out.push_str(": ")?;
             put(out, text, *formula)?;
         }
         Statement::Row(_, modules) => put_row(out, text, modules)?,

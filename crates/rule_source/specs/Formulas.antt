@@ -76,6 +76,15 @@ abbrev pub start_of : Statement → Option Token
 start_of (statement.Start h t) = Some t
 start_of _ = None
 
+-- the formula of a line that may help to keep a claim
+abbrev pub helper_of : Statement → Option Token
+helper_of (statement.Helper l t) = Some t
+helper_of _ = None
+
+-- the formulas of these lines, in their order
+abbrev pub helpers_in : List Line → List Token
+helpers_in ls = filter_map (λ l. helper_of l.statement) ls
+
 -- the formulas about a row are what statements of one sort say, one for each, in their order
 abbrev pub AreSaid : (Statement → Option Token) → Bits → List Line → List Formula → Type 0
 AreSaid of_sort b ls fs = AllZip (FormulaOf b about.Row) (filter_map (λ l. of_sort l.statement) ls) fs
@@ -85,3 +94,6 @@ AreLimits b ls fs = AreSaid limit_of b ls fs
 
 abbrev pub AreStarts : Bits → List Line → List Formula → Type 0
 AreStarts b ls fs = AreSaid start_of b ls fs
+
+abbrev pub AreHelpers : Bits → List Line → List Formula → Type 0
+AreHelpers b ls fs = AreSaid helper_of b ls fs

@@ -1,4 +1,4 @@
--- Which modules patterns fit; how the modules lie; the names of bits and sets; what patterns ask, formulas say and lines do; the given rows; what a file claims, and what it claims to be kept.
+-- Which modules patterns fit; how the modules lie; the names of bits and sets; what patterns ask, formulas say and lines do; the given rows; what a file claims, what it claims to be kept, and what may help to keep it.
 pub mod Clash
 pub mod Layouts
 pub mod Names
@@ -9,4 +9,5 @@ pub mod Given
 pub mod Claimed
 pub mod Asking
 pub mod Kept
+pub mod Helpers
 pub mod Reading

@@ -8,7 +8,7 @@ use Rattle.rule_file.specs.declared.tree.Line.{Line}
 use Rattle.rule_source.specs.Asking.{Asks}
 use Rattle.rule_source.specs.Claimed.{claims_in}
 use Rattle.rule_source.specs.Effects.{AllNameOnce, table_in}
-use Rattle.rule_source.specs.Formulas.{AreLimits, AreStarts}
+use Rattle.rule_source.specs.Formulas.{AreHelpers, AreLimits, AreStarts}
 use Rattle.rule_source.specs.Given.{AreRows}
 use Rattle.rule_source.specs.Kept.{Keeps, kept_in}
 use Rattle.rule_source.specs.Layouts.{layout_of}
@@ -26,7 +26,7 @@ pub record IsRuleOf (b : Bits) (ls : List Line) (r : Rule) : Type 0 where
   pub limits : AreLimits b ls r.limits.items
   pub lines : r.table.items ≡ table_in b ls
 
--- the text of a file is read as this: each statement of the text is in the file, its modules lie in a ring exactly if it has the line `ring:`, no line of its table names a bit twice, and the rule, how a run may begin and the given rows are what the statements say
+-- the text of a file is read as this: each statement of the text is in the file, its modules lie in a ring exactly if it has the line `ring:`, no line of its table names a bit twice, and the rule, how a run may begin, what may help to keep a claim and the given rows are what the statements say
 pub record IsRead (text : List ℕ) (s : Source) : Type 0 where
   pub file : Covers text 0 (file_tokens s.file) (length text)
   pub text_is : s.bits.text.now ≡ text
@@ -34,6 +34,7 @@ pub record IsRead (text : List ℕ) (s : Source) : Type 0 where
   pub layout : s.bits.layout ≡ layout_of s.file.ring
   pub rule : IsRuleOf s.bits s.file.lines.items s.rule
   pub starts : AreStarts s.bits s.file.lines.items s.starts.items
+  pub helpers : AreHelpers s.bits s.file.lines.items s.helpers.items
   pub once : AllNameOnce s.bits s.file.lines.items
   pub rows : AreRows s.bits s.file.lines.items s.rows.items
 

@@ -7,6 +7,7 @@ pub mod clash;
 pub mod fault;
 pub mod formula;
 pub mod given;
+pub mod helpers;
 pub mod kept;
 pub mod lines;
 pub mod pattern;

@@ -1,4 +1,4 @@
-// A rule file, read: the rule, how its runs may begin, and its given rows.
+// A rule file, read: the rule, how its runs may begin, what may help to keep a claim, and its given rows.
 ghost use Rattle.std.specs.Prelude.{◌≡◌, ◌≤◌, IfOk, OnOk, List, length, map, [], ◌++◌};
 ghost use Rattle.std.specs.List.{AllZip, cons_option};
 ghost use Rattle.rule_file.specs.Claims.{bytes_of};
@@ -7,7 +7,7 @@ ghost use Rattle.rule_file.specs.Written.{file_tokens};
 ghost use Rattle.rule_file.specs.declared.token.Token.{Token};
 ghost use Rattle.rule_file.specs.declared.tree.Module.{Module};
 ghost use Rattle.rule_source.specs.Effects.{AllNameOnce, NamesOnce, line_by, table_in};
-ghost use Rattle.rule_source.specs.Formulas.{AreLimits, AreStarts, FormulaOf, limit_of, start_of};
+ghost use Rattle.rule_source.specs.Formulas.{AreHelpers, AreLimits, AreStarts, FormulaOf, helper_of, helpers_in, limit_of, start_of};
 ghost use Rattle.rule_source.specs.Given.{AreRows, IsRow, row_by};
 ghost use Rattle.rule_source.specs.Layouts.{layout_of};
 ghost use Rattle.rule_source.specs.Patterns.{allowed_by, allowed_in};
@@ -37,8 +37,11 @@ pub struct Source<'t> {
     pub rule: Rule,
     // all that holds of the first row of a run; they are no part of the rule
     pub starts: Vec<Formula>,
+    // what may help to keep a claim; no part of the rule either
+    pub helpers: Vec<Formula>,
     pub rows: Vec<Given>,
     pub ghost few: { rule.bits ≤ 5 },
+    pub ghost each: { length (helpers_in file.lines.items) ≡ length helpers.items },
 }
 
 /// Where a pattern stands.
@@ -58,10 +61,12 @@ pub fn statement_span(statement: &Statement) -> Span {
         Statement::Limit(_, formula)
         | Statement::Start(_, formula)
         | Statement::Claim(_, formula)
-        | Statement::Kept(_, formula) => formula.span,
-        Statement::Allowed(heading) | Statement::Table(heading) | Statement::Row(heading, _) => {
-            heading.word.span
-        }
+        | Statement::Kept(_, formula)
+        | Statement::Helper(_, formula) => formula.span,
+        Statement::Allowed(heading)
+        | Statement::Table(heading)
+        | Statement::Helpers(heading)
+        | Statement::Row(heading, _) => heading.word.span,
     }
 }
 
@@ -89,6 +94,7 @@ struct Reading {
     allowed: Vec<Pattern>,
     limits: Vec<Formula>,
     starts: Vec<Formula>,
+    helpers: Vec<Formula>,
     table: Vec<(Line, Span)>,
     rows: Vec<Given>,
 }
@@ -100,12 +106,13 @@ impl Reading {
         ensures patterns { OnOk result (self.new.allowed.items ≡ self.old.allowed.items ++ cons_option (allowed_by bits.now statement.now) []) }
         ensures limits { OnOk result ((ts : List Token) → AllZip (FormulaOf bits.now Row) ts self.old.limits.items → AllZip (FormulaOf bits.now Row) (ts ++ cons_option (limit_of statement.now) []) self.new.limits.items) }
         ensures starts { OnOk result ((ts : List Token) → AllZip (FormulaOf bits.now Row) ts self.old.starts.items → AllZip (FormulaOf bits.now Row) (ts ++ cons_option (start_of statement.now) []) self.new.starts.items) }
+        ensures helpers { OnOk result ((ts : List Token) → AllZip (FormulaOf bits.now Row) ts self.old.helpers.items → AllZip (FormulaOf bits.now Row) (ts ++ cons_option (helper_of statement.now) []) self.new.helpers.items) }
         ensures lines { OnOk result (map (λ l. l.0) self.new.table.items ≡ map (λ l. l.0) self.old.table.items ++ cons_option (line_by bits.now statement.now) []) }
         ensures once { OnOk result (NamesOnce bits.now statement.now) }
         ensures rows { OnOk result ((ms : List (List Module)) → AllZip (IsRow bits.now) ms self.old.rows.items → AllZip (IsRow bits.now) (ms ++ cons_option (row_by statement.now) []) self.new.rows.items) }
     {
         match statement {
-            Statement::Allowed(_) | Statement::Table(_) => {}
+            Statement::Allowed(_) | Statement::Table(_) | Statement::Helpers(_) => {}
             Statement::Never(_, _) | Statement::Claim(_, _) | Statement::Kept(_, _) => {}
             Statement::Pattern(pattern) => self.allowed.push(pattern_of(alloc, bits, pattern)?)?,
             Statement::Limit(_, formula) => {
@@ -113,6 +120,9 @@ impl Reading {
             }
             Statement::Start(_, formula) => {
                 self.starts.push(row_formula(alloc, bits, *formula)?)?
+            }
+            Statement::Helper(_, formula) => {
+                self.helpers.push(row_formula(alloc, bits, *formula)?)?
             }
             Statement::Line(when, _, effects) => {
                 let span = pattern_span(when);
@@ -137,6 +147,7 @@ fn reading_of(
     ensures patterns { IfOk result (λ r. r.allowed.items ≡ allowed_in bits.now lines.now) }
     ensures limits { IfOk result (λ r. AreLimits bits.now lines.now r.limits.items) }
     ensures starts { IfOk result (λ r. AreStarts bits.now lines.now r.starts.items) }
+    ensures helpers { IfOk result (λ r. AreHelpers bits.now lines.now r.helpers.items) }
     ensures lines { IfOk result (λ r. map (λ l. l.0) r.table.items ≡ table_in bits.now lines.now) }
     ensures once { OnOk result (AllNameOnce bits.now lines.now) }
     ensures rows { IfOk result (λ r. AreRows bits.now lines.now r.rows.items) }
@@ -145,6 +156,7 @@ fn reading_of(
         allowed: Vec::new(alloc),
         limits: Vec::new(alloc),
         starts: Vec::new(alloc),
+        helpers: Vec::new(alloc),
         table: Vec::new(alloc),
         rows: Vec::new(alloc),
     };
@@ -154,19 +166,20 @@ fn reading_of(
     Ok(reading)
 }
 
-// The rule of what was read, how its runs may begin, and the given rows.
+// The rule of what was read, how its runs may begin, what may help, and the given rows.
 fn made(
     alloc: Global,
     bits: &Bits<'_>,
     reading: Reading,
-) -> Result<(Rule, Vec<Formula>, Vec<Given>), Fault>
+) -> Result<(Rule, Vec<Formula>, Vec<Formula>, Vec<Given>), Fault>
     ensures bits { IfOk result (λ r. r.0.bits ≡ length bits.now.names.items) }
     ensures layout { IfOk result (λ r. r.0.layout ≡ bits.now.layout) }
     ensures allowed { IfOk result (λ r. r.0.allowed ≡ reading.allowed) }
     ensures limits { IfOk result (λ r. r.0.limits ≡ reading.limits) }
     ensures table { IfOk result (λ r. r.0.table.items ≡ map (λ l. l.0) reading.table.items) }
     ensures starts { IfOk result (λ r. r.1 ≡ reading.starts) }
-    ensures rows { IfOk result (λ r. r.2 ≡ reading.rows) }
+    ensures helpers { IfOk result (λ r. r.2 ≡ reading.helpers) }
+    ensures rows { IfOk result (λ r. r.3 ≡ reading.rows) }
 {
     let table = reading
         .table
@@ -181,7 +194,7 @@ fn made(
         reading.limits,
         table,
     )?;
-    Ok((rule, reading.starts, reading.rows))
+    Ok((rule, reading.starts, reading.helpers, reading.rows))
 }
 
 /// The rule that statements make, none of which is left out. Fails at the first thing that is wrong in them, and for memory.
@@ -197,11 +210,11 @@ pub fn rule_of(
     ensures lines { IfOk result (λ r. r.table.items ≡ table_in bits.now lines.now) }
     ensures once { OnOk result (AllNameOnce bits.now lines.now) }
 {
-    let (rule, _, _) = made(alloc, bits, reading_of(alloc, bits, lines)?)?;
+    let (rule, _, _, _) = made(alloc, bits, reading_of(alloc, bits, lines)?)?;
     Ok(rule)
 }
 
-/// Reads a rule file: each statement of the text is in the file, and each that makes the rule, says how a run may begin or gives a row is in these. Fails at the first thing that is
+/// Reads a rule file: each statement of the text is in the file, and each that makes the rule, says how a run may begin, may help to keep a claim or gives a row is in these. Fails at the first thing that is
 /// wrong in it, and for memory.
 pub fn source_of(alloc: Global, text: &str) -> Result<Source<'_>, Fault>
     ensures file { IfOk result (λ s. Covers text.now 0 (file_tokens s.file) (length text.now)) }
@@ -213,18 +226,21 @@ pub fn source_of(alloc: Global, text: &str) -> Result<Source<'_>, Fault>
     ensures patterns { IfOk result (λ s. s.rule.allowed.items ≡ allowed_in s.bits s.file.lines.items) }
     ensures limits { IfOk result (λ s. AreLimits s.bits s.file.lines.items s.rule.limits.items) }
     ensures starts { IfOk result (λ s. AreStarts s.bits s.file.lines.items s.starts.items) }
+    ensures helpers { IfOk result (λ s. AreHelpers s.bits s.file.lines.items s.helpers.items) }
     ensures lines { IfOk result (λ s. s.rule.table.items ≡ table_in s.bits s.file.lines.items) }
     ensures once { IfOk result (λ s. AllNameOnce s.bits s.file.lines.items) }
     ensures rows { IfOk result (λ s. AreRows s.bits s.file.lines.items s.rows.items) }
 {
     let file = read(alloc, text)?;
     let bits = Bits::new(alloc, text, layout_of(&file), &file.bits)?;
-    let (rule, starts, rows) = made(alloc, &bits, reading_of(alloc, &bits, &file.lines)?)?;
+    let reading = reading_of(alloc, &bits, &file.lines)?;
+    let (rule, starts, helpers, rows) = made(alloc, &bits, reading)?;
     Ok(Source {
         bits,
         file,
         rule,
         starts,
+        helpers,
         rows,
     })
 }

@@ -101,7 +101,7 @@ fn faults_are_told(rt: HostRuntime) -> Result<(), Fail> {
         ("bits: a\nallowed * | a | *", "2:9: expected `:`, found `*`"),
         (
             "bits: a\n* | a | *",
-            "2:1: expected `allowed:`, `table:`, `start:`, `never`, `claim`, `kept` or `row:`, found `*`",
+            "2:1: expected `allowed:`, `table:`, `start:`, `never`, `claim`, `kept`, `helpers:` or `row:`, found `*`",
         ),
         (
             "bits: a\nnever gap:junk",
@@ -191,12 +191,73 @@ fn faults_are_told(rt: HostRuntime) -> Result<(), Fail> {
             "3:7: expected another name, found `x` a second time",
         ),
         (
+            "bits: helpers",
+            "1:7: expected a name, found the word `helpers`",
+        ),
+        (
+            "bits: a\nclaim helpers: y",
+            "2:7: expected a name, found the word `helpers`",
+        ),
+        (
+            "bits: a\nhelpers\n",
+            "2:8: expected `:`, found the end of the line",
+        ),
+        (
+            "bits: a\nhelpers: x: y",
+            "2:10: expected the end of the line, found `x`",
+        ),
+        ("bits: a\nhelpers:\n  x y", "3:5: expected `:`, found `y`"),
+        (
+            "bits: a\nhelpers:\n  x: # all\n",
+            "3:11: expected a formula, found the end of the line",
+        ),
+        (
+            "bits: a\nhelpers:\n  a | a | a",
+            "3:5: expected `:`, found `|`",
+        ),
+        (
+            "bits: a\nhelpers:\n  * | a | *",
+            "3:3: expected a name, found `*`",
+        ),
+        (
+            "bits: a\nhelpers:\n  left: y",
+            "3:3: expected a name, found the word `left`",
+        ),
+        (
+            "bits: a\nhelpers:\n  x: y\n  x: z",
+            "4:3: expected another name, found `x` a second time",
+        ),
+        (
+            "bits: a\nhelpers:\n  x: y\nkept x: y",
+            "4:6: expected another name, found `x` a second time",
+        ),
+        (
+            "bits: a\nnever x: a|a|a\nhelpers:\n  x: y",
+            "4:3: expected another name, found `x` a second time",
+        ),
+        (
+            "bits: a\nalowed: (a",
+            "2:1: expected `allowed:`, `table:`, `start:`, `never`, `claim`, `kept`, `helpers:` or `row:`, found `alowed`",
+        ),
+        (
+            "bits: a\nallowed:\n  a | a | a\nlimit: (a",
+            "4:6: expected `|` or a further word of the pattern, found `:`",
+        ),
+        (
+            "bits: a\ntable:\n  a: (a",
+            "3:4: expected `|` or a further word of the pattern, found `:`",
+        ),
+        (
+            "bit: (a",
+            "1:1: expected `bits:` with the names of a module's bits, found `bit`",
+        ),
+        (
             "bits: a\nclaim x: y\nnever x: a|a|a",
             "3:7: expected another name, found `x` a second time",
         ),
         (
             "bits: a\ngrün",
-            "2:1: expected `allowed:`, `table:`, `start:`, `never`, `claim`, `kept` or `row:`, found `grün`",
+            "2:1: expected `allowed:`, `table:`, `start:`, `never`, `claim`, `kept`, `helpers:` or `row:`, found `grün`",
         ),
     ];
     for (text, want) in cases {
@@ -225,6 +286,19 @@ fn starts_and_kept_claims_are_printed(rt: HostRuntime) -> Result<(), Fail> {
         "bits: a\nstart :~(a # (\n = row) # so\nallowed:\n*|a|*\nstart: a sub row\n* | * | *\nkept one :a = {\n}";
     let want =
         "bits: a\nstart: ~(a # (\n = row)\n\nallowed:\n  * | a | *\nstart: a sub row\n  * | * | *\nkept one: a = {\n}\n";
+    let printed = said(rt.alloc(), text)?;
+    assert_eq!(rt; printed.as_str(), want);
+    let again = said(rt.alloc(), printed.as_str())?;
+    assert_eq!(rt; again.as_str(), want);
+    Ok(())
+}
+
+#[test]
+fn helpers_are_printed(rt: HostRuntime) -> Result<(), Fail> {
+    let text =
+        "bits: a\nhelpers : # two\none :~(a # (\n = row) # so\ntwo:a sub row\nallowed:\n*|a|*\nhelpers:\nkept three:a = a";
+    let want =
+        "bits: a\n\nhelpers:\n  one: ~(a # (\n = row)\n  two: a sub row\n\nallowed:\n  * | a | *\n\nhelpers:\nkept three: a = a\n";
     let printed = said(rt.alloc(), text)?;
     assert_eq!(rt; printed.as_str(), want);
     let again = said(rt.alloc(), printed.as_str())?;

@@ -8,6 +8,8 @@ mod file;
 #[cfg(test)]
 mod first_row;
 #[cfg(test)]
+mod helpers;
+#[cfg(test)]
 mod kept;
 #[cfg(test)]
 mod random_files;

@@ -3,6 +3,14 @@ use crate::file::wrong;
 use std::alloc::Global;
 use std::test::Fail;
 
+// The heading below which a line stands.
+#[derive(Clone, Copy)]
+enum Below {
+    Allowed,
+    Table,
+    Helpers,
+}
+
 // Numbers that look random, the same in each run.
 #[derive(Drop)]
 struct Dice {
@@ -62,16 +70,29 @@ impl Dice {
         Ok(())
     }
 
+    // A line as those below its heading are.
+    fn put_below(&mut self, out: &mut String, below: Below, number: u32) -> Result<(), Fail> {
+        match below {
+            Below::Allowed => self.put_pattern(out),
+            Below::Table => {
+                self.put_pattern(out)?;
+                self.put_effects(out)
+            }
+            Below::Helpers => {
+                out.push_str(format!(in self.alloc; "n{number}")?.as_str())?;
+                out.push_str(self.pick(&[":", " : "]))?;
+                self.put_formula(out)
+            }
+        }
+    }
+
     // A line below a heading, or a statement that stands anywhere.
-    fn put_line(&mut self, out: &mut String, table: bool, number: u32) -> Result<(), Fail> {
+    fn put_line(&mut self, out: &mut String, below: Below, number: u32) -> Result<(), Fail> {
         match self.pick(&[
             "line", "line", "never", "claim", "kept", "limit", "start", "row", "",
         ]) {
             "line" => {
-                self.put_pattern(out)?;
-                if table {
-                    self.put_effects(out)?;
-                }
+                self.put_below(out, below, number)?;
             }
             "never" => {
                 out.push_str(format!(in self.alloc; "never n{number} :")?.as_str())?;
@@ -108,11 +129,15 @@ impl Dice {
         out.push_str(self.pick(&["", "ring:\n", "\n ring :# a loop\n"]))?;
         out.push_str(self.pick(&["allowed:\n", "allowed :# patterns\n"]))?;
         for number in 0..6u32 {
-            self.put_line(out, false, number)?;
+            self.put_line(out, Below::Allowed, number)?;
         }
         out.push_str(self.pick(&["table:\n", " table : \n"]))?;
         for number in 6..12u32 {
-            self.put_line(out, true, number)?;
+            self.put_line(out, Below::Table, number)?;
+        }
+        out.push_str(self.pick(&["helpers:\n", "\thelpers :# some\n"]))?;
+        for number in 12..18u32 {
+            self.put_line(out, Below::Helpers, number)?;
         }
         Ok(())
     }
