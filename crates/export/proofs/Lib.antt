@@ -1,2 +1,3 @@
 -- Lemmas on the calls for other languages.
 pub mod KeptVerdictLaws
+pub mod StrongerVerdictLaws

@@ -3,3 +3,4 @@ pub mod Verdict
 pub mod RowVerdict
 pub mod RingVerdict
 pub mod KeptVerdict
+pub mod StrongerVerdict

@@ -35,7 +35,8 @@ fn plain(tag: u32) -> KeptNumbers
     }
 }
 
-fn moment_number(moment: Moment) -> u32
+// The moment: 0 at the start, 1 in a step.
+pub fn moment_number(moment: Moment) -> u32
     ensures { result ≡ moment_number moment }
 {
     match moment {
@@ -45,7 +46,7 @@ fn moment_number(moment: Moment) -> u32
 }
 
 // In what a claim is too large, and how many of these there are.
-fn reason(why: Large) -> (u32, u64)
+pub fn reason(why: Large) -> (u32, u64)
     ensures reason { result.0 ≡ reason why }
     ensures number { result.1 ≡ count why }
 {

@@ -1,5 +1,5 @@
-// The calls for other languages, on claims, row claims and ring claims, how many work words they ask for, and the call on what a step of a
-// rule file keeps. It is a crate of its own so that the static library is proved and built in seconds once the crates below it are.
+// The calls for other languages, on claims, row claims and ring claims, how many work words they ask for, and the calls on what a step of a
+// rule file keeps and with which helpers. It is a crate of its own so that the static library is proved and built in seconds once the crates below it are.
 #![tactic(auto)]
 
 pub mod floor;
@@ -9,4 +9,6 @@ pub mod ring_floor;
 pub mod ring_verdict;
 pub mod row_floor;
 pub mod row_verdict;
+pub mod stronger_outcome;
+pub mod stronger_verdict;
 pub mod verdict;

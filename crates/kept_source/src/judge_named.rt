@@ -4,17 +4,18 @@ ghost use Rattle.kept_source.specs.Faults.{is_memory};
 ghost use Rattle.kept_source.specs.Named.{Named, OfSource};
 
 use crate::in_file::InFile;
+use crate::read::read;
 use kept_check::judge_kept::judge_kept;
 use kept_check::part::Asked;
 use rule_check::memory::Memory;
 use rule_source::fault::Fault;
 use rule_source::kept::{Keep, keeps_of};
-use rule_source::source::{Source, source_of};
+use rule_source::source::Source;
 use rules::known::Unsound;
 use std::alloc::{AllocError, Global};
 
-// The first of them with that name.
-fn called<'k, 's>(keeps: &'k [Keep<'s>], name: &str) -> Option<&'k Keep<'s>>
+/// The first of them with that name.
+pub fn called<'k, 's>(keeps: &'k [Keep<'s>], name: &str) -> Option<&'k Keep<'s>>
     ensures named { IfSome result (λ k. k.now.name.now ≡ name.now) }
     ensures found { IfSome result (λ k. Contains keeps.now k.now) }
     ensures none { IfNone result (All (λ k. k.name.now ≢ name.now) keeps.now) }
@@ -46,12 +47,12 @@ fn judge_in<'s, 't: 's>(
 fn judge_text(alloc: Global, text: &str, name: &str, memory: Memory) -> Result<InFile, Fault>
     ensures { IfOk result (Named text.now name.now memory) }
 {
-    let source = source_of(alloc, text)?;
+    let source = read(alloc, text)?;
     judge_in(alloc, &source, name, memory)
 }
 
-// Whether a fault is that there is not enough memory. Among the faults of a formula it is the one that stands nowhere in the file.
-fn is_memory(fault: &Fault) -> bool
+/// Whether a fault is that there is not enough memory. Among the faults of a formula it is the one that stands nowhere in the file.
+pub fn is_memory(fault: &Fault) -> bool
     ensures { result ≡ is_memory fault.now }
 {
     match fault {

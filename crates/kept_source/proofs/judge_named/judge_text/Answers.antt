@@ -14,16 +14,4 @@ of_text text name y s read answer.NoSuchClaim h = (s, read, h)
 of_text text name y s read (answer.Judged a) h = (s, read, h)
 
 pub returns : goal.returns
-returns c =
-    let e = c.in_ok-source.ensures in
-    IfOk-weaker c.judge_in.result _ _
-    (of_text c.args.text.now c.args.name.now c.args.memory c.in_ok-source.source (record {
-      file = e.file;
-      text_is = e.text;
-      names = e.names;
-      layout = e.layout;
-      rule = record { bits = e.bits; layout = e.ring; patterns = e.patterns; limits = e.limits; lines = e.lines };
-      starts = e.starts;
-      once = e.once;
-      rows = e.rows;
-    })) c.judge_in.ensures
+returns c = IfOk-weaker c.judge_in.result _ _ (of_text c.args.text.now c.args.name.now c.args.memory c.in_ok-source.source c.in_ok-source.ensures) c.judge_in.ensures
