@@ -20,4 +20,5 @@ pub record AreWanted (m : ArgMatches) (o : Options) : Type 0 where
   pub steps : value_of m (codes "steps") ≡ None → o.steps ≡ 0
   pub show : IsFlag (value_of m (codes "show")) o.show
   pub bytes : IsFlag (value_of m (codes "bytes")) o.bytes
+  pub why : IsFlag (value_of m (codes "why")) o.why
   pub pictures : o.pictures ≡ is_some (first_value (found_of m) (codes "picture"))

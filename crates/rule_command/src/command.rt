@@ -36,6 +36,10 @@ fn command<'a>(alloc: Global) -> Result<Command<'a>, Error> {
         .value_name("N")
         .value_parser(clap::value_parser!(u32))
         .help("Show the N rows after each given row and each first row");
+    let why = Arg::new(alloc, "why")
+        .long("why")
+        .action(ArgAction::SetTrue)
+        .help("Show of each choice of helpers before the answer why it does not keep a claim");
     let show = Arg::new(alloc, "show")
         .long("show")
         .action(ArgAction::SetTrue)
@@ -58,6 +62,7 @@ fn command<'a>(alloc: Global) -> Result<Command<'a>, Error> {
             .arg(files)?
             .arg(most)?
             .arg(steps)?
+            .arg(why)?
             .arg(show)?
             .arg(bytes)?
             .arg(picture)?,
@@ -87,5 +92,6 @@ pub fn options_of(matches: &ArgMatches<'_>) -> Options
         show: matches.get_flag("show"),
         bytes: matches.get_flag("bytes"),
         pictures: matches.get_str("picture").is_some(),
+        why: matches.get_flag("why"),
     }
 }

@@ -6,5 +6,9 @@ pub mod Answers
 pub mod Told
 pub mod ShownClaim
 pub mod ShownKeeping
+pub mod KeptWords
+pub mod Choices
+pub mod Why
+pub mod Helped
 pub mod KeptAnswers
 pub mod Reported

@@ -17,7 +17,8 @@ use Rattle.rule_report.specs.declared.subject.Subject.{Subject}
 use Rattle.rule_report.specs.declared.subject.Subject.TheVariants as subject
 use Rattle.rule_report.specs.Answers.{TrueOf}
 use Rattle.rule_source.specs.Reading.{IsRead, AreClaims, AreKeeps}
-use Rattle.rule_report.specs.KeptAnswers.{IsKeptAnswer, names_of}
+use Rattle.rule_report.specs.KeptAnswers.{IsKeptAnswer}
+use Rattle.rule_report.specs.KeptWords.{names_of}
 use Rattle.rule_report.specs.ShownClaim.{IsShown}
 use Rattle.rule_report.specs.ShownRows.{rows_from, rows_shown, picture_name}
 use Rattle.rule_report.specs.Subjects.{given_of, short_of}

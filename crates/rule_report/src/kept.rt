@@ -1,16 +1,20 @@
 // What is told of a claim that something is kept.
-ghost use Rattle.std.specs.Prelude.{◌≡◌, ◌∷◌, [], Some, IfOk, map, string_bytes, if◌then◌else◌};
+ghost use Rattle.std.specs.Prelude.{◌≡◌, ◌∷◌, [], Some, IfOk, map, max, string_bytes, if◌then◌else◌};
 ghost use Rattle.kept_check.specs.declared.answer.Answer.TheVariants as answer;
-ghost use Rattle.rule_report.specs.KeptAnswers.{IsTold, drawn_of, moment_of, why_of};
-ghost use Rattle.rule_report.specs.ShownRows.{picture_name};
+ghost use Rattle.rule_report.specs.KeptAnswers.{IsTold, drawn_of};
+ghost use Rattle.rule_report.specs.KeptWords.{breach_words, moment_of, why_of};
+ghost use Rattle.rule_report.specs.ShownRows.{Follows, picture_name};
 ghost use Rattle.rule_report.specs.Reported.{Tells, of_keep, picture_names};
 
 use crate::answer::Asked;
+use crate::helped::help;
 use crate::piece::{Report, picture_of};
+use crate::progress::Progress;
 use crate::shown_keeping::shown_keeping;
 use crate::shown_rows::{Rows, history};
 use crate::stop::Stop;
 use crate::told::placed;
+use diagram::history::History;
 use keeping::moment::Moment;
 use kept_check::answer::{Answer, Breach, Large, TooLarge};
 use kept_check::judge_kept::judge_kept;
@@ -21,8 +25,8 @@ use rule_source::source::statement_span;
 use std::alloc::{AllocError, Global};
 use std::fmt;
 
-// At which moment a row shows that something is not kept.
-fn moment_words(moment: Moment) -> &'static str
+/// At which moment a row shows that something is not kept.
+pub fn moment_words(moment: Moment) -> &'static str
     ensures { result.now ≡ moment_of moment }
 {
     match moment {
@@ -31,9 +35,9 @@ fn moment_words(moment: Moment) -> &'static str
     }
 }
 
-// How large a claim is that is not judged.
+/// How large a claim is that is not judged.
 #[derive(Clone, Copy)]
-struct Why(Large);
+pub struct Why(pub Large);
 
 impl fmt::Display for Why {
     ghost output = { λ why. Some (why_of why.0) };
@@ -47,6 +51,39 @@ impl fmt::Display for Why {
     }
 }
 
+/// The first row that shows that something is not kept, and the rows after it, one at least.
+pub fn breach_history(
+    alloc: Global,
+    asked: Asked<'_, '_>,
+    breach: &Breach,
+) -> Result<History, AllocError>
+    ensures { IfOk result (Follows asked.entry.source.now.rule breach.now.row.items (max asked.entry.options.now.steps 1)) }
+{
+    let steps = asked.options.steps.max(1);
+    history(alloc, asked.source, &breach.row, steps)
+}
+
+/// What is told of that row, behind what is not kept.
+pub fn breach_words(
+    alloc: Global,
+    asked: Asked<'_, '_>,
+    breach: &Breach,
+    history: &History,
+) -> Result<String, AllocError>
+    requires { Follows asked.source.now.rule breach.now.row.items (max asked.options.now.steps 1) history.now }
+    ensures { IfOk result (λ words. string_bytes words ≡ breach_words asked.entry.source.now asked.entry.options.now breach.now) }
+{
+    let source = asked.source;
+    let rows = Rows {
+        layout: source.bits.layout,
+        names: &source.bits.names,
+        history,
+    };
+    let count = history.modules;
+    let moment = moment_words(breach.moment);
+    format!(in alloc; "not kept, first at length {count}, {moment}\n{rows}")
+}
+
 // What is told of the first row that shows that it is not kept: the row, the rows after it, and their picture.
 fn told_breach(
     alloc: Global,
@@ -57,19 +94,11 @@ fn told_breach(
     ensures text { IfOk result (λ r. IsTold asked.entry.file.now asked.entry.source.now asked.entry.options.now keep.now (answer.NotKept breach.now) (string_bytes r.text)) }
     ensures pictures { IfOk result (λ r. picture_names r.pictures.items ≡ map (picture_name asked.entry.title.now) (if asked.entry.options.now.pictures then drawn_of keep.now (answer.NotKept breach.now) else [])) }
 {
-    let source = asked.source;
-    let steps = asked.options.steps.max(1);
-    let history = history(alloc, source, &breach.row, steps)?;
-    let rows = Rows {
-        layout: source.bits.layout,
-        names: &source.bits.names,
-        history: &history,
-    };
+    let history = breach_history(alloc, asked, breach)?;
+    let words = breach_words(alloc, asked, breach, &history)?;
     let name = keep.name;
-    let count = history.modules;
-    let moment = moment_words(breach.moment);
     Ok(Report {
-        text: format!(in alloc; "  {name}: not kept, first at length {count}, {moment}\n{rows}")?,
+        text: format!(in alloc; "  {name}: {words}")?,
         pictures: picture_of(alloc, asked, name, name, &history)?,
     })
 }
@@ -122,8 +151,13 @@ fn told(
     }
 }
 
-/// The answer on one claim that something is kept, and the claims that were judged as the options want them shown. Fails for memory, and where a claim has no text.
-pub fn kept_answer(alloc: Global, asked: Asked<'_, '_>, keep: &Keep<'_>) -> Result<Report, Stop>
+/// The answer on one claim that something is kept, the claims that were judged as the options want them shown, and with the help of which claims of the file it is kept where by itself it is not. Fails for memory, and where a claim has no text.
+pub fn kept_answer<P: Progress>(
+    alloc: Global,
+    asked: Asked<'_, '_>,
+    keep: &Keep<'_>,
+    watch: &mut P,
+) -> Result<Report, Stop>
     ensures { IfOk result (Tells asked.entry.file.now asked.entry.title.now asked.entry.source.now asked.entry.options.now (of_keep keep.now ∷ [])) }
 {
     let memory = Memory::program(asked.options.most.unwrap_or(u32::MAX));
@@ -131,9 +165,10 @@ pub fn kept_answer(alloc: Global, asked: Asked<'_, '_>, keep: &Keep<'_>) -> Resu
     let answer = judge_kept(alloc, part::Asked { keeping, memory })?;
     let told = told(alloc, asked, keep, &answer)?;
     let claims = shown_keeping(alloc, asked, keeping)?;
+    let help = help(alloc, asked, keep, memory, &answer, watch)?;
     let Report { text, pictures } = told;
     Ok(Report {
-        text: format!(in alloc; "{text}{claims}")?,
+        text: format!(in alloc; "{text}{claims}{help}")?,
         pictures,
     })
 }

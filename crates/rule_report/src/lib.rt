@@ -2,10 +2,13 @@
 #![tactic(auto)]
 
 pub mod answer;
+pub mod choices;
+pub mod helped;
 pub mod kept;
 pub mod narrow;
 pub mod options;
 pub mod piece;
+pub mod progress;
 pub mod report;
 pub mod shown_claim;
 pub mod shown_keeping;
@@ -13,3 +16,4 @@ pub mod shown_rows;
 pub mod stop;
 pub mod subject;
 pub mod told;
+pub mod why;

@@ -13,4 +13,6 @@ pub struct Options {
     pub bytes: bool,
     /// Each first row and each given row is drawn with the rows after it.
     pub pictures: bool,
+    /// Of each choice of helpers that comes before the answer is shown why it does not keep the claim.
+    pub why: bool,
 }

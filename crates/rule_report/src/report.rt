@@ -10,6 +10,7 @@ use crate::answer::{Answer, Asked, answer_to};
 use crate::kept::kept_answer;
 use crate::options::Options;
 use crate::piece::{Report, picture_of};
+use crate::progress::Progress;
 use crate::shown_claim::shown_claim;
 use crate::shown_rows::{Picture, Rows, history, title_of};
 use crate::stop::Stop;
@@ -171,7 +172,12 @@ fn claim_answers(alloc: Global, asked: Asked<'_, '_>, claims: &[Claim<'_>]) -> R
 }
 
 // The answers on what the file claims to be kept.
-fn kept_answers(alloc: Global, asked: Asked<'_, '_>, keeps: &[Keep<'_>]) -> Result<Report, Stop>
+fn kept_answers<P: Progress>(
+    alloc: Global,
+    asked: Asked<'_, '_>,
+    keeps: &[Keep<'_>],
+    watch: &mut P,
+) -> Result<Report, Stop>
     ensures { IfOk result (Tells asked.entry.file.now asked.entry.title.now asked.entry.source.now asked.entry.options.now (map of_keep keeps.now)) }
 {
     let mut report = Report {
@@ -179,48 +185,51 @@ fn kept_answers(alloc: Global, asked: Asked<'_, '_>, keeps: &[Keep<'_>]) -> Resu
         pictures: Vec::new(alloc),
     };
     for keep in keeps {
-        report.append(kept_answer(alloc, asked, keep)?)?;
+        report.append(kept_answer(alloc, asked, keep, watch)?)?;
     }
     Ok(report)
 }
 
 // The answers to the questions of a rule and to its claims, and on what is claimed to be kept.
-fn answers(
+fn answers<P: Progress>(
     alloc: Global,
     asked: Asked<'_, '_>,
     claims: &[Claim<'_>],
     keeps: &[Keep<'_>],
+    watch: &mut P,
 ) -> Result<Report, Stop>
     requires { All (Asks asked.source.now) claims.now }
     ensures { IfOk result (Tells asked.entry.file.now asked.entry.title.now asked.entry.source.now asked.entry.options.now (items claims.now keeps.now)) }
 {
     let mut report = general_answers(alloc, asked)?;
     report.append(claim_answers(alloc, asked, claims)?)?;
-    report.append(kept_answers(alloc, asked, keeps)?)?;
+    report.append(kept_answers(alloc, asked, keeps, watch)?)?;
     Ok(report)
 }
 
 // The report of a rule and its claims.
-fn report_on(
+fn report_on<P: Progress>(
     alloc: Global,
     asked: Asked<'_, '_>,
     claims: &[Claim<'_>],
     keeps: &[Keep<'_>],
+    watch: &mut P,
 ) -> Result<Report, Stop>
     requires { All (Asks asked.source.now) claims.now }
     ensures { IfOk result (Reports asked.entry.file.now asked.entry.title.now asked.entry.source.now asked.entry.options.now claims.now keeps.now) }
 {
     let mut report = front(alloc, asked)?;
-    report.append(answers(alloc, asked, claims, keeps)?)?;
+    report.append(answers(alloc, asked, claims, keeps, watch)?)?;
     Ok(report)
 }
 
 // The report of a rule file that was read.
-fn report_of_source<'s, 't: 's>(
+fn report_of_source<'s, 't: 's, P: Progress>(
     alloc: Global,
     file: &'s str,
     source: &'s Source<'t>,
     options: &'s Options,
+    watch: &mut P,
 ) -> Result<Report, Stop>
     ensures { IfOk result (ReportsClaims file.now source.now options.now) }
 {
@@ -232,31 +241,33 @@ fn report_of_source<'s, 't: 's>(
         source,
         options,
     };
-    report_on(alloc, asked, &claims, &keeps)
+    report_on(alloc, asked, &claims, &keeps, watch)
 }
 
-fn report_of<'x>(
+fn report_of<'x, P: Progress>(
     alloc: Global,
     file: &'x str,
     text: &'x str,
     options: &'x Options,
+    watch: &mut P,
 ) -> Result<Report, Stop>
     ensures { IfOk result (Reported file.now text.now options.now) }
 {
     let source = source_of(alloc, text)?;
-    report_of_source(alloc, file, &source, options)
+    report_of_source(alloc, file, &source, options, watch)
 }
 
-/// The report of a rule file, or the message that stands in its place where the file is at fault. Fails for memory alone.
-pub fn report_file(
+/// The report of a rule file, or the message that stands in its place where the file is at fault. How far it is where helpers are tried is told on the way. Fails for memory alone.
+pub fn report_file<P: Progress>(
     alloc: Global,
     file: &str,
     text: &str,
     options: &Options,
+    watch: &mut P,
 ) -> Result<Result<Report, String>, AllocError>
     ensures { IfOk result (λ r. IfOk r (Reported file.now text.now options.now)) }
 {
-    match report_of(alloc, file, text, options) {
+    match report_of(alloc, file, text, options, watch) {
         Ok(report) => Ok(Ok(report)),
         Err(Stop::File(fault)) => {
             let shown = fault.shown(file, text);

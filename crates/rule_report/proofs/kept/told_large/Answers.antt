@@ -1,6 +1,6 @@
 use Rattle.std.proofs.Common.{ℕ, List, ◌++◌, codes, string_bytes, ap, ◌∙◌}
 use Rattle.std.specs.Fmt.{decimal}
-use Rattle.rule_report.specs.KeptAnswers.{why_of}
+use Rattle.rule_report.specs.KeptWords.{why_of}
 use Rattle.rule_report.proofs.kept.told_large.Goals as goal
 
 pub returns-clause-text : goal.returns-clause-text

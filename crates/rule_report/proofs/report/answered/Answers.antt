@@ -1,6 +1,6 @@
 use Rattle.std.proofs.Common.{◌++◌, map, string_bytes, ap, refl, subst, ◌∙◌}
 use Rattle.rule_report.specs.ShownClaim.{IsShown}
-use Rattle.rule_report.specs.KeptAnswers.{names_of}
+use Rattle.rule_report.specs.KeptWords.{names_of}
 use Rattle.rule_report.specs.Told.{told}
 use Rattle.rule_report.specs.Reported.{drawn, about}
 use Rattle.rule_report.proofs.ReportedLaws.{tells_one}

@@ -4,7 +4,7 @@ use Rattle.rule_report.proofs.ReportedLaws.{tells_append}
 use Rattle.rule_report.proofs.report.answers.Goals as goal
 
 pub returns : goal.returns
-returns c =
+returns g c =
     let a = c.args.asked in
     let claims = map of_claim c.args.claims.now in
     tells_append a.file.now a.title.now a.source.now a.options.now (general ++ claims) (map of_keep c.args.keeps.now) c.append.new.self c.in_ok-kept_answers.field-0 c.append-2.new.self

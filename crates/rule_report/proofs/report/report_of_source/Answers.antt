@@ -4,7 +4,7 @@ use Rattle.rule_report.specs.Reported.{Reports}
 use Rattle.rule_report.proofs.report.report_of_source.Goals as goal
 
 pub returns : goal.returns
-returns c =
+returns g c =
     let file = c.args.file.now in
     let title = c.title_of.result.now in
     let s = c.args.source.now in
