@@ -3,7 +3,7 @@
 use std::error::Error;
 use std::fmt;
 
-/// The fewest work words that [`judge_kept`] takes: 2^20, which are 4 MiB.
+/// The fewest work words that [`judge_kept`] and [`strengthen`](crate::strengthen()) take: 2^20, which are 4 MiB.
 pub const LEAST_WORDS: u64 = 1 << 20;
 
 /// What is said of a kept claim of a rule file.
@@ -89,13 +89,34 @@ impl Error for NotJudged {}
 
 /// Six numbers, as the library has them: which answer, and what it says.
 #[repr(C)]
-struct Numbers {
-    tag: u32,
-    moment: u32,
-    part: u32,
-    reason: u32,
-    number: u64,
-    length: usize,
+pub(crate) struct Numbers {
+    pub(crate) tag: u32,
+    pub(crate) moment: u32,
+    pub(crate) part: u32,
+    pub(crate) reason: u32,
+    pub(crate) number: u64,
+    pub(crate) length: usize,
+}
+
+impl Numbers {
+    /// Where a claim fails, or for which of the two it is too large.
+    pub(crate) fn moment(&self) -> Moment {
+        match self.moment {
+            0 => Moment::Start,
+            1 => Moment::Step,
+            moment => unreachable!("the library's moments are 0 and 1, not {moment}"),
+        }
+    }
+
+    /// In what a claim is too large.
+    pub(crate) fn large(&self) -> Large {
+        match self.reason {
+            0 => Large::Classes(self.number),
+            1 => Large::Bytes(self.number),
+            2 => Large::Sets(self.number),
+            reason => unreachable!("the library's reasons are 0 to 2, not {reason}"),
+        }
+    }
 }
 
 unsafe extern "C" {
@@ -131,28 +152,14 @@ fn call(rule: &str, name: &str, most: u32, words: u64, out: &mut [u32]) -> Numbe
 
 /// What the numbers say, where they are an answer and `out` had room for it.
 fn answer(numbers: &Numbers, out: &[u32]) -> Kept {
-    let moment = match numbers.moment {
-        0 => Moment::Start,
-        1 => Moment::Step,
-        moment => unreachable!("the library's moments are 0 and 1, not {moment}"),
-    };
     match numbers.tag {
         0 => Kept::Kept,
         1 => {
             let (row, after) = out[..2 * numbers.length].split_at(numbers.length);
-            Kept::NotKept { moment, row: row.to_vec(), after: after.to_vec() }
+            Kept::NotKept { moment: numbers.moment(), row: row.to_vec(), after: after.to_vec() }
         }
-        2 => Kept::TooLarge { part: numbers.part, moment, large: large(numbers.reason, numbers.number) },
+        2 => Kept::TooLarge { part: numbers.part, moment: numbers.moment(), large: numbers.large() },
         tag => unreachable!("the library's answers are 0 to 7, not {tag}"),
-    }
-}
-
-fn large(reason: u32, number: u64) -> Large {
-    match reason {
-        0 => Large::Classes(number),
-        1 => Large::Bytes(number),
-        2 => Large::Sets(number),
-        reason => unreachable!("the library's reasons are 0 to 2, not {reason}"),
     }
 }
 

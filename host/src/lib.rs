@@ -80,6 +80,28 @@
 //! assert_eq!(judge_kept(rule, "apart", 1000, LEAST_WORDS)?, first);
 //! # Ok::<(), NotJudged>(())
 //! ```
+//!
+//! [`strengthen`](strengthen()) says with which of the `helpers:` of the file a claim is kept that is not kept by itself: the fewest, by
+//! their numbers in the list.
+//!
+//! ```
+//! use ceivuron::{LEAST_WORDS, NotJudged, Stronger, strengthen};
+//!
+//! // All trays go on at each step, and none comes onto the line.
+//! let rule = "bits: tray
+//! table:
+//!   tray | * | * -> tray moves
+//!   * | tray | * -> !tray moves
+//! start: empty(tray)
+//! kept second_is_free: 1 notin tray
+//! helpers:
+//!   last_is_free: last notin tray
+//!   first_is_free: 0 notin tray
+//! ";
+//! // The second module is free after a step if the first one is, and that one stays so.
+//! assert_eq!(strengthen(rule, "second_is_free", 1000, LEAST_WORDS)?, Stronger::With(vec![2]));
+//! # Ok::<(), NotJudged>(())
+//! ```
 
 mod answer;
 mod call;
@@ -96,6 +118,7 @@ mod row_claim;
 pub mod row_part;
 pub mod second;
 pub mod start;
+mod strengthen;
 
 pub use answer::{Answer, RingAnswer, RowAnswer};
 pub use call::{RingVerdict, RowVerdict, Verdict, call, call_ring, call_row};
@@ -105,3 +128,4 @@ pub use kept::{Kept, LEAST_WORDS, Large, Moment, NotJudged, judge_kept};
 pub use memory::{floor, ring_floor, row_floor};
 pub use ring_claim::RingClaim;
 pub use row_claim::RowClaim;
+pub use strengthen::{MOST_HELPERS, Stronger, strengthen};

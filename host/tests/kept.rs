@@ -1,6 +1,7 @@
 //! What a step keeps, asked of the call and searched row by row from the rule file alone: the two must agree. No claim, no automaton
 //! and no proved code takes part in the search.
 
+mod asking;
 mod formula;
 mod keeping;
 mod random_rules;
@@ -10,37 +11,12 @@ use std::fs;
 use std::path::Path;
 use std::thread;
 
+use asking::{MORE_WORDS, MOST, asked};
 use ceivuron::second::random::Random;
 use ceivuron::{Kept, LEAST_WORDS, Large, Moment, NotJudged, judge_kept};
 use keeping::{Break, Keeping, rows};
-use random_rules::{NAME, rule_file};
-use rule_files::Rule;
-
-/// As many classes, and as many words of work memory at first, and where these do not suffice.
-const MOST: u32 = 4000;
-const WORDS: u64 = 1 << 22;
-const MORE_WORDS: u64 = 1 << 24;
-
-/// What the call says of a kept claim of a rule file: that it is kept, or where it is not; or what is too large.
-fn asked(text: &str, name: &str) -> Result<Option<Break>, Large> {
-    match asked_in(text, name, WORDS) {
-        Err(Large::Classes(_)) => asked_in(text, name, MORE_WORDS),
-        said => said,
-    }
-}
-
-/// The same, with so many words.
-fn asked_in(text: &str, name: &str, words: u64) -> Result<Option<Break>, Large> {
-    let modules = |row: Vec<u32>| row.into_iter().map(|module| module as usize).collect();
-    match judge_kept(text, name, MOST, words) {
-        Ok(Kept::Kept) => Ok(None),
-        Ok(Kept::NotKept { moment, row, after }) => {
-            Ok(Some(Break { moment, row: modules(row), after: modules(after) }))
-        }
-        Ok(Kept::TooLarge { large, .. }) => Err(large),
-        Err(error) => panic!("{error}: {name} in\n{text}"),
-    }
-}
+use random_rules::{NAME, claim, rule_file};
+use rule_files::{Rule, examples};
 
 /// Checks what the call says against what was found in all rows of up to that many modules: the same row, where one is found; where none
 /// is, a longer one may be said, at which the claim fails as is said.
@@ -69,14 +45,6 @@ fn search_example(text: &str) -> Vec<bool> {
         said.is_none()
     };
     rule.kept.iter().map(is_kept).collect()
-}
-
-/// The rule files of the repository.
-fn examples() -> Vec<String> {
-    let folder = Path::new(env!("CARGO_MANIFEST_DIR")).join("../examples/rules");
-    let files = fs::read_dir(folder).unwrap().map(|entry| entry.unwrap().path());
-    let rules = files.filter(|path| path.extension().is_some_and(|end| end == "txt"));
-    rules.map(|path| fs::read_to_string(path).unwrap()).collect()
 }
 
 #[test]
@@ -125,12 +93,6 @@ impl Sample {
             && any(&|row| keeping.starts(row))
             && any(&|row| keeping.has(row) && keeping.after(row) != row)
     }
-}
-
-/// The claim of a rule made at random.
-fn claim(rule: &Rule) -> &str {
-    let (_, claim) = rule.kept.iter().find(|(name, _)| name == NAME).unwrap();
-    claim
 }
 
 /// Rules made at random, a hundred for each that a search may find: nothing, a row at the start, a row in a step. Of the hundred where

@@ -1,5 +1,7 @@
 //! What a step keeps, searched row by row from a rule file alone.
 
+#![allow(dead_code)] // each search takes a part of it
+
 use ceivuron::Moment;
 
 use crate::formula::Formula;
@@ -34,19 +36,24 @@ pub fn all_seen(columns: usize) -> impl Iterator<Item = Seen> {
     side().flat_map(move |left| (0..columns).flat_map(move |own| side().map(move |right| [left, Some(own), right])))
 }
 
+/// A formula about the rows of a rule.
+pub fn read(rule: &Rule, text: &str) -> Formula {
+    Formula::read(&rule.bits, rule.ring, text)
+}
+
 impl<'r> Keeping<'r> {
     /// That a step keeps the formula `claim`.
     pub fn of(rule: &'r Rule, claim: &str) -> Keeping<'r> {
-        let read = |text: &str| Formula::read(&rule.bits, rule.ring, text);
         Keeping {
             rule,
-            starts: rule.starts.iter().map(|start| read(start)).collect(),
-            claim: read(claim),
+            starts: rule.starts.iter().map(|start| read(rule, start)).collect(),
+            claim: read(rule, claim),
             step: all_seen(rule.columns()).map(|seen| rule.after(seen)).collect(),
         }
     }
 
-    fn holds(&self, formula: &Formula, row: &[usize]) -> bool {
+    /// Whether a formula holds of the row.
+    pub fn holds(&self, formula: &Formula, row: &[usize]) -> bool {
         formula.holds(self.rule.bits.len(), self.rule.ring, row)
     }
 
@@ -84,7 +91,13 @@ impl<'r> Keeping<'r> {
     /// As how many modules rows may have, at most `most`, so that of no length more than so many rows are tried. A row counts once for
     /// each set of its places where there are quantifiers of sets, and more often where these stand within one another.
     pub fn searchable(&self, most: usize, tries: usize) -> usize {
-        let deep = self.starts.iter().chain([&self.claim]).map(Formula::sets_within).max().unwrap_or(0);
+        self.searchable_with(&[], most, tries)
+    }
+
+    /// The same, where these formulas are looked at too.
+    pub fn searchable_with(&self, formulas: &[Formula], most: usize, tries: usize) -> usize {
+        let all = self.starts.iter().chain([&self.claim]).chain(formulas);
+        let deep = all.map(Formula::sets_within).max().unwrap_or(0);
         let factor = self.rule.columns() << deep;
         (1..=most).take_while(|length| factor.pow(*length as u32) <= tries).last().unwrap_or(0)
     }

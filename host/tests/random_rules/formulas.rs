@@ -43,6 +43,11 @@ impl Formulas<'_> {
         }
     }
 
+    /// What may help to keep a claim: mostly one part.
+    pub fn helper(&mut self) -> String {
+        if self.random.one_in(6) { self.claim() } else { self.part() }
+    }
+
     fn bit(&mut self) -> String {
         self.sets[self.random.below(self.sets.len())].clone()
     }

@@ -1,7 +1,9 @@
 //! Rule files made at random, the same ones for the same seed: a few bits, in a row or in a ring, a table of a few lines, starts, and
 //! something that is claimed to be kept, which may or may not be so.
 
-mod formulas;
+#![allow(dead_code)] // each search takes a part of it
+
+pub mod formulas;
 
 use ceivuron::second::random::Random;
 
@@ -9,7 +11,8 @@ use crate::keeping::all_seen;
 use crate::rule_files::Rule;
 use formulas::Formulas;
 
-const BITS: [&str; 3] = ["tray", "drive", "brake"];
+/// The names of bits, of which a rule has the first ones.
+pub const BITS: [&str; 3] = ["tray", "drive", "brake"];
 
 /// The name of what is claimed to be kept.
 pub const NAME: &str = "is_so";
@@ -31,6 +34,12 @@ pub fn rule_file(random: &mut Random, bits: usize, ring: bool) -> String {
         text += &format!("kept other: {}\n", formulas.claim());
     }
     text + &format!("kept {NAME}: {claim}\n")
+}
+
+/// The claim of a rule made at random.
+pub fn claim(rule: &Rule) -> &str {
+    let (_, claim) = rule.kept.iter().find(|(name, _)| name == NAME).unwrap();
+    claim
 }
 
 /// Which rows are allowed plays no part either.

@@ -1,6 +1,6 @@
 //! A small reader of rule files, for searches that take no part of the proved code: the bits, whether there is a ring, the
-//! patterns of allowed rows, the limits that count, the table, and as they stand there other limits, the starts and what is
-//! claimed to be kept. What else stands in a file is passed over.
+//! patterns of allowed rows, the limits that count, the table, and as they stand there other limits, the starts, what is
+//! claimed to be kept and the list of helpers. What else stands in a file is passed over.
 
 #![allow(dead_code)] // each search takes a part of it
 
@@ -49,6 +49,7 @@ enum Section {
     Outside,
     Allowed,
     Table,
+    Helpers,
 }
 
 pub struct Rule {
@@ -63,6 +64,10 @@ pub struct Rule {
     pub starts: Vec<String>,
     /// What is claimed to be kept: names, and formulas.
     pub kept: Vec<(String, String)>,
+    /// The list of helpers: names, and formulas.
+    pub helpers: Vec<(String, String)>,
+    /// The lines of the file but for the list of helpers.
+    others: Vec<String>,
 }
 
 fn bit(bits: &[String], name: &str) -> usize {
@@ -164,13 +169,18 @@ impl Rule {
             table: Vec::new(),
             starts: Vec::new(),
             kept: Vec::new(),
+            helpers: Vec::new(),
+            others: Vec::new(),
         };
         let mut section = Section::Outside;
-        for line in lines(text).iter().filter(|line| !line.is_empty()) {
+        for line in lines(text).into_iter().filter(|line| !line.is_empty()) {
             section = match line.split_once(':') {
                 Some((head, said)) => rule.statement(section, head, said.trim()),
-                None => rule.in_section(section, line),
+                None => rule.in_section(section, &line),
             };
+            if !matches!(section, Section::Helpers) {
+                rule.others.push(line);
+            }
         }
         rule
     }
@@ -187,18 +197,23 @@ impl Rule {
                 None => self.formulas.push(said.to_string()),
             },
             ["table"] => return Section::Table,
+            ["helpers"] => return Section::Helpers,
             ["start"] => self.starts.push(said.to_string()),
             ["kept", name] => self.kept.push((name.to_string(), said.to_string())),
             ["never" | "claim", _] | ["row"] => {}
+            [name] if matches!(section, Section::Helpers) => {
+                self.helpers.push((name.to_string(), said.to_string()));
+                return section;
+            }
             _ => panic!("no line of a rule file begins so: {head}"),
         }
-        section
+        Section::Outside
     }
 
     /// A line below `allowed:` or `table:`; the next one is to be read as it was.
     fn in_section(&mut self, section: Section, line: &str) -> Section {
         match section {
-            Section::Outside => panic!("a line in no section: {line}"),
+            Section::Outside | Section::Helpers => panic!("a line in no section: {line}"),
             Section::Allowed => self.allowed.push(pattern(&self.bits, line)),
             Section::Table => self.table.push(table_line(&self.bits, line)),
         }
@@ -208,6 +223,11 @@ impl Rule {
     /// The rule of a file of the repository.
     pub fn read(path: &str) -> Rule {
         Rule::of(&read(path))
+    }
+
+    /// The file with one more claim to be kept, and without its list of helpers.
+    pub fn claiming(&self, name: &str, claim: &str) -> String {
+        format!("{}\nkept {name}: {claim}\n", self.others.join("\n"))
     }
 
     /// How many columns a module may be.
@@ -279,6 +299,14 @@ fn fits(pattern: &Pattern, seen: Seen) -> bool {
 /// A file of the repository.
 pub fn read(path: &str) -> String {
     fs::read_to_string(Path::new(env!("CARGO_MANIFEST_DIR")).join("..").join(path)).unwrap()
+}
+
+/// The rule files of the repository's examples.
+pub fn examples() -> Vec<String> {
+    let folder = Path::new(env!("CARGO_MANIFEST_DIR")).join("../examples/rules");
+    let files = fs::read_dir(folder).unwrap().map(|entry| entry.unwrap().path());
+    let rules = files.filter(|path| path.extension().is_some_and(|end| end == "txt"));
+    rules.map(|path| fs::read_to_string(path).unwrap()).collect()
 }
 
 /// The marks of each bit of a row: `#` for a module that has it, else a point.
